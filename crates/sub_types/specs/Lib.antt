@@ -1,0 +1,9 @@
+pub mod Bits
+pub mod Kind
+pub mod Value
+pub mod Stream
+pub mod Optional
+pub mod OptionalLaws
+pub mod Part
+pub mod PartLaws
+pub mod Slots
