@@ -1,0 +1,4 @@
+pub mod VarintLaws
+pub mod ScanLaws
+pub mod SizeLaws
+pub mod PlaceLaws

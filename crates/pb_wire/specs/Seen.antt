@@ -1,0 +1,40 @@
+-- What a reader of records gives, without references.
+use Rattle.std.specs.Prelude.{◌≡◌, ◌≢◌, ℕ, ◌+◌, List, [], Option, Some, None, Result, Ok, Err, drop}
+use Rattle.std.specs.Borrow.{Bor}
+use Rattle.pb_wire.specs.declared.record.Payload.{Payload}
+use Rattle.pb_wire.specs.declared.record.Payload.TheVariants as payloads
+use Rattle.pb_wire.specs.declared.record.Record.{Record}
+use Rattle.pb_wire.specs.Records.{Content, Varint, Eight, Bytes, Four, Entry, Scan, stands, scan_from, behind_record}
+
+abbrev pub content_of : Payload → Content
+content_of (payloads.Varint value) = Varint value
+content_of (payloads.Eight value) = Eight value
+content_of (payloads.Bytes bytes) = Bytes bytes.now
+content_of (payloads.Four value) = Four value
+
+-- a record that takes so many bytes
+abbrev pub entry_of : Record → ℕ → Entry
+entry_of found size = record { number = found.number; content = content_of found.payload; size = size }
+
+-- where a reader has come to, and the bytes from there on
+pub record Rest : Type 0 where
+  pub place : ℕ
+  pub bytes : List ℕ
+
+-- the records that are left
+unfoldable pub scan_of : Rest → Scan
+scan_of rest = scan_from rest.place rest.bytes 0
+
+-- Nothing is given exactly at the end; a place where no record stands there, and then the reader stays; else the record
+-- that stands there, and the reader goes behind it.
+abbrev pub IsNext : Rest → Rest → Option (Result Record ℕ) → Type 0
+IsNext old new None = (old.bytes ≡ []) × (new ≡ old)
+IsNext old new (Some (Err place)) = (place ≡ old.place) × (old.bytes ≢ []) × (stands old.bytes ≡ None) × (new ≡ old)
+IsNext old new (Some (Ok found)) =
+    (found.place ≡ old.place) × ((size : ℕ) × (stands old.bytes ≡ Some (entry_of found size)) × (new ≡ record { place = old.place + size; bytes = drop size old.bytes }))
+
+-- what was given is the first of the records that were left
+abbrev pub IsFirst : Rest → Rest → Option (Result Record ℕ) → Type 0
+IsFirst old new None = scan_of old ≡ record { records = []; broken = None }
+IsFirst old new (Some (Err place)) = scan_of old ≡ record { records = []; broken = Some place }
+IsFirst old new (Some (Ok found)) = (size : ℕ) × (scan_of old ≡ behind_record found.place (entry_of found size) (scan_of new))

@@ -1,0 +1,3 @@
+// Protocol Buffers against bytes that were worked out by hand.
+mod records;
+mod varints;
