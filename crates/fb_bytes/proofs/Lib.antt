@@ -1,0 +1,11 @@
+pub mod LawProofs
+pub mod ObjectBack
+pub mod VectorBack
+pub mod TableBack
+pub mod ReadLemmas
+pub mod ObjectLemmas
+pub mod BegunLemmas
+pub mod TableLemmas
+pub mod OwnLemmas
+pub mod CellLemmas
+pub mod ByteLemmas

@@ -1,0 +1,20 @@
+//! FlatBuffers: tables read out of bytes, and objects laid out as bytes.
+#![tactic(auto)]
+
+mod bad_buffer;
+mod fields;
+mod laws;
+mod number;
+mod object;
+mod own;
+mod put;
+mod table;
+mod vector;
+mod write;
+
+pub use bad_buffer::BadBuffer;
+pub use laws::{laid_lengths, laid_reads_back};
+pub use object::{FbField, FbObject};
+pub use table::Table;
+pub use vector::FbVector;
+pub use write::fb_write;

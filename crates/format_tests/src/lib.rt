@@ -1,0 +1,5 @@
+//! Tests of the formats: FlatBuffers.
+#![tactic(auto)]
+
+#[cfg(test)]
+mod tests;

@@ -1,0 +1,5 @@
+// FlatBuffers against worked bytes.
+mod layout;
+mod objects;
+mod reading;
+mod worked;
