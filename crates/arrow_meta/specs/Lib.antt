@@ -1,0 +1,4 @@
+pub mod Buffers
+pub mod Messages
+pub mod File
+pub mod Meta
