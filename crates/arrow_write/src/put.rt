@@ -1,0 +1,65 @@
+// A file written piece by piece.
+ghost use Rattle.std.specs.Prelude.{◌≡◌, ◌++◌, [], OnOk, OnErr};
+ghost use Rattle.world.specs.Counts.{HasCause};
+ghost use Rattle.world.specs.Files.{written, appended, Has, IsPartWritten};
+ghost use Rattle.arrow_write.specs.Pieces.{IsPartAppended, IsPartCreated};
+
+use crate::WriteError;
+use crate::pieces::Pieces;
+use std::alloc::Global;
+use world::{Folder, FolderError};
+
+// The file of these pieces, in the place of what is there.
+pub(crate) fn put_pieces<F: Folder>(
+    alloc: Global,
+    folder: &mut F,
+    name: &str,
+    pieces: &Pieces,
+) -> Result<(), WriteError>
+    ensures ok { OnOk result (F.files folder.new
+        ≡ written (F.files folder.old) name.now (pieces.now.head.items ++ pieces.now.message.items ++ pieces.now.tail.items)) }
+    ensures err { OnErr result (IsPartWritten (F.files folder.old) (F.files folder.new) name.now
+        (pieces.now.head.items ++ pieces.now.message.items ++ pieces.now.tail.items)) }
+    ensures cause { HasCause WriteError.WriteFault (F.write_faults folder.old) (F.write_faults folder.new) result }
+    ensures reads { F.reads folder.new ≡ F.reads folder.old }
+    ensures read_faults { F.read_faults folder.new ≡ F.read_faults folder.old }
+{
+    create(alloc, folder, name)?;
+    append(alloc, folder, name, &pieces.head)?;
+    append(alloc, folder, name, &pieces.message)?;
+    append(alloc, folder, name, &pieces.tail)
+}
+
+fn create<F: Folder>(alloc: Global, folder: &mut F, name: &str) -> Result<(), WriteError>
+    ensures ok { OnOk result (F.files folder.new ≡ written (F.files folder.old) name.now []) }
+    ensures err { OnErr result (IsPartCreated (F.files folder.old) (F.files folder.new) name.now) }
+    ensures cause { HasCause WriteError.WriteFault (F.write_faults folder.old) (F.write_faults folder.new) result }
+    ensures reads { F.reads folder.new ≡ F.reads folder.old }
+    ensures read_faults { F.read_faults folder.new ≡ F.read_faults folder.old }
+{
+    match folder.create(alloc, name) {
+        Ok(()) => Ok(()),
+        Err(FolderError::Failed) => Err(WriteError::WriteFault),
+        Err(FolderError::NoMemory) => Err(WriteError::NoMemory),
+    }
+}
+
+fn append<F: Folder>(
+    alloc: Global,
+    folder: &mut F,
+    name: &str,
+    piece: &[u8],
+) -> Result<(), WriteError>
+    requires { Has (F.files folder.old) name.now }
+    ensures ok { OnOk result (F.files folder.new ≡ appended (F.files folder.old) name.now piece.now) }
+    ensures err { OnErr result (IsPartAppended (F.files folder.old) (F.files folder.new) name.now piece.now) }
+    ensures cause { HasCause WriteError.WriteFault (F.write_faults folder.old) (F.write_faults folder.new) result }
+    ensures reads { F.reads folder.new ≡ F.reads folder.old }
+    ensures read_faults { F.read_faults folder.new ≡ F.read_faults folder.old }
+{
+    match folder.append(alloc, name, piece) {
+        Ok(()) => Ok(()),
+        Err(FolderError::Failed) => Err(WriteError::WriteFault),
+        Err(FolderError::NoMemory) => Err(WriteError::NoMemory),
+    }
+}
