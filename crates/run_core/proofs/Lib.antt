@@ -1,0 +1,4 @@
+pub mod Ties
+pub mod Counting
+pub mod Steps
+pub mod Runs

@@ -1,0 +1,5 @@
+pub mod Counts
+pub mod Receipts
+pub mod Machine
+pub mod Memory
+pub mod Ready
