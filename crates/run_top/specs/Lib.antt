@@ -1,0 +1,9 @@
+pub mod Words
+pub mod Form
+pub mod Seen
+pub mod ReadingSeen
+pub mod Lines
+pub mod Said
+pub mod Found
+pub mod Alone
+pub mod Answer

@@ -1,0 +1,68 @@
+// The words of a command line, read by position.
+ghost use Rattle.std.specs.Prelude.{◌≡◌, ◌≤◌, ◌↔◌, IsTrue, IfSome};
+ghost use Rattle.std.specs.Option.{option_map};
+ghost use Rattle.run_top.specs.Words.{number_within, IsNumber, are_names, reading_of};
+ghost use Rattle.run_top.specs.ReadingSeen.{reading_seen};
+
+use itoa::Buffer;
+use sub_types::Word;
+
+/// The most workers of a run.
+const MAX_WORKERS: u32 = 64;
+
+/// `run` of a plan file into an out file on so many workers.
+#[derive(Clone, Copy, Debug)]
+pub(crate) struct Reading<'a> {
+    pub(crate) plan: &'a str,
+    pub(crate) out: &'a str,
+    pub(crate) workers: u32,
+}
+
+/// What the words say, or `None` where they have no reading.
+#[tactic(auto, unfolding(crate::specs::Words::reading_of))]
+pub(crate) fn read_words<'a>(words: &'a [Word]) -> Option<Reading<'a>>
+    ensures reading { option_map reading_seen result ≡ reading_of words.entry.now }
+    ensures workers { IfSome result (λ reading. 1 ≤ reading.workers) }
+{
+    let [command, plan, out, workers] = words else {
+        return None;
+    };
+    if command.text() != "run" || !names_two_files(plan.text(), out.text()) {
+        return None;
+    }
+    let workers = number(workers.text(), MAX_WORKERS)?;
+    Some(Reading {
+        plan: plan.text(),
+        out: out.text(),
+        workers,
+    })
+}
+
+// Both files are named, and by two names.
+fn names_two_files(plan: &str, out: &str) -> bool
+    ensures { result ≡ are_names plan.now out.now }
+{
+    !plan.is_empty() && !out.is_empty() && out != plan
+}
+
+// The number from 1 to `most` whose decimal digits are the word.
+fn number(word: &str, most: u32) -> Option<u32>
+    ensures number { result ≡ number_within most word.now }
+    ensures some { IfSome result (λ n. 1 ≤ n) }
+{
+    let Ok(number) = word.parse::<u32>() else {
+        return None;
+    };
+    if !is_number(word, number, most) {
+        return None;
+    }
+    Some(number)
+}
+
+// The word is just the digits of the number, which is from 1 to `most`.
+fn is_number(word: &str, number: u32, most: u32) -> bool
+    ensures { IsTrue result ↔ IsNumber word.now number most }
+{
+    let mut buffer = Buffer::new();
+    buffer.format(number) == word && 1 <= number && number <= most
+}
