@@ -1,0 +1,26 @@
+// The program: `run PLAN OUT WORKERS` over the files of the current folder.
+#![tactic(auto)]
+
+mod folder;
+mod notes;
+mod words;
+
+use folder::StdFolder;
+use notes::StdNotes;
+use run_top::{Status, exit_number, run_main};
+use std::process::ExitCode;
+use world::OpenGate;
+
+fn main(rt: HostRuntime) -> ExitCode {
+    let Ok(words) = words::words_of(&rt, rt.alloc()) else {
+        let _ = println!(rt; "no memory");
+        return ExitCode::from(exit_number(&Status::NoMemory));
+    };
+    let mut folder = StdFolder::new(&rt);
+    let mut notes = StdNotes::new(&rt);
+    let status = run_main(&rt, rt.alloc(), &words, &mut folder, &mut notes, &OpenGate);
+    ExitCode::from(exit_number(&status))
+}
+
+#[cfg(test)]
+mod tests;
