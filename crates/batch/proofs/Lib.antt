@@ -1,0 +1,4 @@
+pub mod JoinLaws
+pub mod Made
+pub mod RowLaws
+pub mod ValueLaws

@@ -1,0 +1,7 @@
+pub mod ColumnValues
+pub mod Rows
+pub mod KindLaws
+pub mod Built
+pub mod BatchRows
+pub mod Column
+pub mod Growing

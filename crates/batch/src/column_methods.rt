@@ -1,0 +1,36 @@
+// What a column can be asked for.
+ghost use Rattle.std.specs.Prelude.{◌≡◌, ◌<◌, ◌≤◌, length, slice_index_or, All, IfOk};
+ghost use Rattle.std.specs.List.{slice_range};
+ghost use Rattle.batch.specs.ColumnValues.{values_of};
+ghost use Rattle.batch.specs.Rows.{picked};
+ghost use Rattle.sub_types.specs.declared.value.Value.TheVariants.{Null};
+
+use crate::{Column, ColumnBuilder};
+use std::alloc::Global;
+use sub_types::NoMemory;
+
+impl Column {
+    /// The values at these places, in this order.
+    pub fn gather(&self, alloc: Global, at: &[u64]) -> Result<Column, NoMemory>
+        requires { All (λ i. i < length (values_of self.now.values)) at.now }
+        ensures values { IfOk result (λ column. values_of column.values ≡ picked Null at.now (values_of self.now.values)) }
+        ensures ty { IfOk result (λ column. column.ty ≡ self.now.ty) }
+    {
+        Ok(Column {
+            ty: self.ty,
+            values: self.values.gather(alloc, at)?,
+        })
+    }
+
+    /// The values from `from` to before `to`.
+    pub fn part(&self, alloc: Global, from: usize, to: usize) -> Result<Column, NoMemory>
+        requires rising { from ≤ to }
+        requires within { to ≤ length (values_of self.now.values) }
+        ensures values { IfOk result (λ column. values_of column.values ≡ slice_range (values_of self.now.values) from to) }
+        ensures ty { IfOk result (λ column. column.ty ≡ self.now.ty) }
+    {
+        let mut builder = ColumnBuilder::new(alloc, self.ty);
+        builder.append(self, from, to)?;
+        Ok(builder.finish())
+    }
+}

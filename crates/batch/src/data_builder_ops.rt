@@ -1,0 +1,125 @@
+// What the values of a column that grow can do, however they are stored.
+ghost use Rattle.std.specs.Prelude.{◌≡◌, ◌≤◌, ◌++◌, ◌∷◌, [], length, OnOk, OnErr};
+ghost use Rattle.std.specs.List.{slice_range};
+ghost use Rattle.batch.specs.ColumnValues.{values_of, storage_of};
+ghost use Rattle.batch.specs.Built.{built, built_storage, IsStored};
+ghost use Rattle.sub_types.specs.declared.value.Value.TheVariants.{Null};
+
+use crate::data_builder::DataBuilder;
+use crate::{ColumnData, Storage};
+use col_fixed::{BoolBuilder, FixedBuilder};
+use col_text::TextBuilder;
+use std::alloc::Global;
+use sub_types::{NoMemory, Value};
+
+impl DataBuilder {
+    /// No values, to be stored so. It takes no memory.
+    pub(crate) fn new(alloc: Global, storage: Storage) -> DataBuilder
+        ensures values { built result ≡ [] }
+        ensures storage { built_storage result ≡ storage }
+    {
+        match storage {
+            Storage::Bool => DataBuilder::Bool(BoolBuilder::new(alloc)),
+            Storage::I8 => DataBuilder::I8(FixedBuilder::new(alloc)),
+            Storage::I16 => DataBuilder::I16(FixedBuilder::new(alloc)),
+            Storage::I32 => DataBuilder::I32(FixedBuilder::new(alloc)),
+            Storage::I64 => DataBuilder::I64(FixedBuilder::new(alloc)),
+            Storage::I128 => DataBuilder::I128(FixedBuilder::new(alloc)),
+            Storage::Bytes => DataBuilder::Bytes(TextBuilder::new(alloc)),
+        }
+    }
+
+    /// Adds one at the end.
+    pub(crate) fn push(&mut self, value: &Value) -> Result<(), NoMemory>
+        requires { IsStored (built_storage self.old) value.now }
+        ensures ok { OnOk result (built self.new ≡ built self.old ++ value.now ∷ []) }
+        ensures err { OnErr result (self.new ≡ self.old) }
+        ensures storage { built_storage self.new ≡ built_storage self.old }
+    {
+        if let Value::Null = value {
+            return self.push_null();
+        }
+        match (self, value) {
+            (DataBuilder::Bool(builder), Value::Bool(truth)) => builder.push(Some(*truth)),
+            (DataBuilder::I8(builder), Value::Int(number)) => builder.push(Some(*number as i8)),
+            (DataBuilder::I16(builder), Value::Int(number)) => builder.push(Some(*number as i16)),
+            (DataBuilder::I32(builder), Value::Int(number)) => builder.push(Some(*number as i32)),
+            (DataBuilder::I64(builder), Value::Int(number)) => builder.push(Some(*number)),
+            (DataBuilder::I128(builder), Value::Dec(number)) => builder.push(Some(*number)),
+            (DataBuilder::Bytes(builder), Value::Bytes(bytes)) => builder.push(Some(bytes.bytes())),
+            _ => unreachable!(),
+        }
+    }
+
+    fn push_null(&mut self) -> Result<(), NoMemory>
+        ensures ok { OnOk result (built self.new ≡ built self.old ++ Null ∷ []) }
+        ensures err { OnErr result (self.new ≡ self.old) }
+        ensures storage { built_storage self.new ≡ built_storage self.old }
+    {
+        match self {
+            DataBuilder::Bool(builder) => builder.push(None),
+            DataBuilder::I8(builder) => builder.push(None),
+            DataBuilder::I16(builder) => builder.push(None),
+            DataBuilder::I32(builder) => builder.push(None),
+            DataBuilder::I64(builder) => builder.push(None),
+            DataBuilder::I128(builder) => builder.push(None),
+            DataBuilder::Bytes(builder) => builder.push(None),
+        }
+    }
+
+    /// Adds the values of `more` from `from` to before `to` at the end.
+    pub(crate) fn append(
+        &mut self,
+        more: &ColumnData,
+        from: usize,
+        to: usize,
+    ) -> Result<(), NoMemory>
+        requires alike { storage_of more.now ≡ built_storage self.old }
+        requires rising { from ≤ to }
+        requires within { to ≤ length (values_of more.now) }
+        ensures ok { OnOk result (built self.new ≡ built self.old ++ slice_range (values_of more.now) from to) }
+        ensures err { OnErr result (self.new ≡ self.old) }
+        ensures storage { built_storage self.new ≡ built_storage self.old }
+    {
+        match (self, more) {
+            (DataBuilder::Bool(builder), ColumnData::Bool(column)) => {
+                builder.append(&column.view().part(from, to))
+            }
+            (DataBuilder::I8(builder), ColumnData::I8(column)) => {
+                builder.append(&column.view().part(from, to))
+            }
+            (DataBuilder::I16(builder), ColumnData::I16(column)) => {
+                builder.append(&column.view().part(from, to))
+            }
+            (DataBuilder::I32(builder), ColumnData::I32(column)) => {
+                builder.append(&column.view().part(from, to))
+            }
+            (DataBuilder::I64(builder), ColumnData::I64(column)) => {
+                builder.append(&column.view().part(from, to))
+            }
+            (DataBuilder::I128(builder), ColumnData::I128(column)) => {
+                builder.append(&column.view().part(from, to))
+            }
+            (DataBuilder::Bytes(builder), ColumnData::Bytes(column)) => {
+                builder.append(&column.view().part(from, to))
+            }
+            _ => unreachable!(),
+        }
+    }
+
+    /// The column of all that was added.
+    pub(crate) fn finish(self) -> ColumnData
+        ensures values { values_of result ≡ built self }
+        ensures storage { storage_of result ≡ built_storage self }
+    {
+        match self {
+            DataBuilder::Bool(builder) => ColumnData::Bool(builder.finish()),
+            DataBuilder::I8(builder) => ColumnData::I8(builder.finish()),
+            DataBuilder::I16(builder) => ColumnData::I16(builder.finish()),
+            DataBuilder::I32(builder) => ColumnData::I32(builder.finish()),
+            DataBuilder::I64(builder) => ColumnData::I64(builder.finish()),
+            DataBuilder::I128(builder) => ColumnData::I128(builder.finish()),
+            DataBuilder::Bytes(builder) => ColumnData::Bytes(builder.finish()),
+        }
+    }
+}

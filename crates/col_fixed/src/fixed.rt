@@ -1,0 +1,125 @@
+// A column of numbers (Arrow columnar format, fixed-size primitive layout).
+ghost use Rattle.std.specs.Prelude.{◌≡◌, ◌↔◌, ◌<◌, ◌∷◌, ◌++◌, [], None, length, vec_len, map, is_some, slice_index_or, OnOk, OnErr, IsTrue};
+ghost use Rattle.sub_types.specs.Optional.{optional};
+ghost use Rattle.sub_types.specs.Slots.{slots};
+
+use crate::{Native, View};
+use std::alloc::Global;
+use std::marker::Model;
+use sub_types::{Bits, NoMemory};
+
+/// A column of numbers. Contracts see its list of optional values.
+#[derive(Debug, Drop)]
+pub struct Fixed<T: Native> {
+    values: Vec<T>,
+    valid: Bits,
+}
+
+impl<T: Native> Model for Fixed<T> {
+    ghost use Rattle.std.specs.Prelude.{List, Option};
+    ghost use Rattle.sub_types.specs.Optional.{optional};
+    ghost use Rattle.col_fixed.specs.Column.{IsColumn};
+
+    ghost Value = { List (Option T) };
+
+    ghost view = { λ column. optional column.values.items column.valid };
+
+    ghost invariant = { λ column. IsColumn T.zero column.values.items column.valid };
+}
+
+impl<T: Native> Fixed<T> {
+    /// No values. It takes no memory.
+    pub(crate) fn new(alloc: Global) -> Fixed<T>
+        ensures { result ≡ [] }
+    {
+        Fixed {
+            values: Vec::new(alloc),
+            valid: Bits::new(alloc),
+        }
+    }
+
+    /// The values whose bit is true, and null for the others.
+    pub fn from_parts(values: Vec<T>, valid: Bits) -> Fixed<T>
+        requires { vec_len values ≡ length valid }
+        ensures { result ≡ optional values.items valid }
+    {
+        let mut values = values;
+        for i in 0..valid.len() {
+            if !valid.get(i) {
+                values[i] = T::zero();
+            }
+        }
+        Fixed { values, valid }
+    }
+
+    pub fn len(&self) -> usize
+        ensures { result ≡ length self.now }
+    {
+        self.values.len()
+    }
+
+    pub fn is_empty(&self) -> bool
+        ensures { IsTrue result ↔ (self.now ≡ []) }
+    {
+        self.values.is_empty()
+    }
+
+    /// The whole column, lent.
+    pub fn view(&self) -> View<'_, T>
+        ensures { result ≡ self.now }
+    {
+        View::of(self)
+    }
+
+    pub fn value_at(&self, i: usize) -> Option<T>
+        requires { i < length self.now }
+        ensures { result ≡ slice_index_or self.now i None }
+    {
+        if self.valid.get(i) {
+            return Some(self.values[i]);
+        }
+        None
+    }
+
+    /// The buffer of values: zero stands where there is none.
+    pub fn values(&self) -> &[T]
+        ensures { result.now ≡ slots T.zero self.now }
+    {
+        &self.values
+    }
+
+    /// Which values are there.
+    pub fn validity(&self) -> &Bits
+        ensures { result.now ≡ map is_some self.now }
+    {
+        &self.valid
+    }
+
+    /// Adds one at the end.
+    pub(crate) fn push(&mut self, value: Option<T>) -> Result<(), NoMemory>
+        ensures ok { OnOk result (self.new ≡ self.old ++ value ∷ []) }
+        ensures err { OnErr result (self.new ≡ self.old) }
+    {
+        self.values.push(value.unwrap_or(T::zero()))?;
+        if let Err(NoMemory) = self.valid.push(value.is_some()) {
+            let _ = self.values.pop();
+            return Err(NoMemory);
+        }
+        Ok(())
+    }
+
+    /// Adds the values of a column, or of a part of one, at the end.
+    pub(crate) fn append(&mut self, more: &View<'_, T>) -> Result<(), NoMemory>
+        ensures ok { OnOk result (self.new ≡ self.old ++ more.now) }
+        ensures err { OnErr result (self.new ≡ self.old) }
+    {
+        let before = self.values.len();
+        self.values.extend_from_slice(more.values())?;
+        let (valid, from, to) = more.validity();
+        if let Err(NoMemory) = self.valid.append(valid, from, to) {
+            self.values.truncate(before);
+            return Err(NoMemory);
+        }
+        Ok(())
+    }
+}

@@ -1,0 +1,19 @@
+//! Columns of numbers of a fixed width and of truth values: values in one buffer, validity beside it,
+//! one bit a value. Contracts see a column, a view and a builder as its list of optional values.
+#![tactic(auto)]
+
+mod bool_builder;
+mod bool_view;
+mod bools;
+mod fixed;
+mod fixed_builder;
+mod native;
+mod view;
+
+pub use bool_builder::BoolBuilder;
+pub use bool_view::BoolView;
+pub use bools::BoolCol;
+pub use fixed::Fixed;
+pub use fixed_builder::FixedBuilder;
+pub use native::Native;
+pub use view::View;

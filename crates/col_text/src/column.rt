@@ -1,0 +1,192 @@
+// A column of texts or binaries (Arrow columnar format, variable-size binary layout).
+ghost use Rattle.std.specs.Prelude.{◌≡◌, ◌↔◌, ℕ, ◌+◌, ◌^◌, ◌<◌, ◌≤◌, ◌∷◌, ◌++◌, List, [], None, length, vec_len, map, is_some, slice_index_or, option_copied, OnOk, OnErr, IsTrue};
+ghost use Rattle.std.specs.List.{concat, slice_range};
+ghost use Rattle.sub_types.specs.Slots.{slots};
+ghost use Rattle.col_text.specs.Text.{ends_of, offset_of};
+
+use crate::TextView;
+use std::alloc::Global;
+use std::marker::Model;
+use sub_types::{Bits, NoMemory};
+
+/// A column of texts or binaries. Contracts see its list of optional byte lists.
+#[derive(Debug, Drop)]
+pub struct TextCol {
+    ends: Vec<usize>,
+    bytes: Vec<u8>,
+    valid: Bits,
+}
+
+impl Model for TextCol {
+    ghost use Rattle.std.specs.Prelude.{ℕ, List, Option};
+    ghost use Rattle.sub_types.specs.Optional.{optional};
+    ghost use Rattle.col_text.specs.Text.{pieces, HoldsTexts};
+
+    ghost Value = { List (Option (List ℕ)) };
+
+    ghost view = { λ column. optional (pieces 0 column.ends.items column.bytes.items) column.valid };
+
+    ghost invariant = { λ column. HoldsTexts (optional (pieces 0 column.ends.items column.bytes.items) column.valid) column.ends.items column.bytes.items column.valid };
+}
+
+impl TextCol {
+    /// No values. It takes no memory.
+    pub(crate) fn new(alloc: Global) -> TextCol
+        ensures { result ≡ [] }
+    {
+        TextCol {
+            ends: Vec::new(alloc),
+            bytes: Vec::new(alloc),
+            valid: Bits::new(alloc),
+        }
+    }
+
+    pub fn len(&self) -> usize
+        ensures { result ≡ length self.now }
+    {
+        self.ends.len()
+    }
+
+    pub fn is_empty(&self) -> bool
+        ensures { IsTrue result ↔ (self.now ≡ []) }
+    {
+        self.len() == 0
+    }
+
+    /// The whole column, lent.
+    pub fn view(&self) -> TextView<'_>
+        ensures { result ≡ self.now }
+    {
+        TextView::of(self)
+    }
+
+    pub fn value_at(&self, i: usize) -> Option<&[u8]>
+        requires { i < length self.now }
+        ensures { option_copied result ≡ slice_index_or self.now i None }
+    {
+        if self.valid.get(i) {
+            return Some(self.bytes_between(i, i + 1));
+        }
+        None
+    }
+
+    /// Where in the bytes the value at `i` begins, and behind the last where the bytes end.
+    pub fn offset(&self, i: usize) -> usize
+        requires { i ≤ length self.now }
+        ensures { result ≡ offset_of (slots [] self.now) i }
+    {
+        if i == 0 {
+            return 0;
+        }
+        self.ends[i - 1]
+    }
+
+    /// Where the bytes of the values from `from` to before `to` begin and end.
+    pub(crate) fn extent(&self, from: usize, to: usize) -> (usize, usize)
+        requires rising { from ≤ to }
+        requires within { to ≤ length self.now }
+        ensures begin { result.0 ≡ offset_of (slots [] self.now) from }
+        ensures end { result.1 ≡ offset_of (slots [] self.now) to }
+        ensures rising { result.0 ≤ result.1 }
+        ensures within { result.1 ≤ length (concat (slots [] self.now)) }
+    {
+        (self.offset(from), self.offset(to))
+    }
+
+    /// The bytes of the values from `from` to before `to`, one behind the other. A null has none.
+    pub fn bytes_between(&self, from: usize, to: usize) -> &[u8]
+        requires rising { from ≤ to }
+        requires within { to ≤ length self.now }
+        ensures { result.now ≡ concat (slice_range (slots [] self.now) from to) }
+    {
+        let (begin, end) = self.extent(from, to);
+        &self.bytes()[begin..end]
+    }
+
+    /// The bytes of all values, one behind the other. A null has none.
+    pub fn bytes(&self) -> &[u8]
+        ensures { result.now ≡ concat (slots [] self.now) }
+    {
+        &self.bytes
+    }
+
+    /// Which values are there.
+    pub fn validity(&self) -> &Bits
+        ensures { result.now ≡ map is_some self.now }
+    {
+        &self.valid
+    }
+
+    /// Adds one at the end.
+    pub(crate) fn push(&mut self, value: Option<&[u8]>) -> Result<(), NoMemory>
+        ensures ok { OnOk result (self.new ≡ self.old ++ option_copied value.entry ∷ []) }
+        ensures err { OnErr result (self.new ≡ self.old) }
+    {
+        let before = self.bytes.len();
+        let is_valid = value.is_some();
+        self.bytes.extend_from_slice(value.unwrap_or(&[]))?;
+        let end = self.bytes.len();
+        if let Err(NoMemory) = push_end(&mut self.ends, &mut self.valid, end, is_valid) {
+            self.bytes.truncate(before);
+            return Err(NoMemory);
+        }
+        Ok(())
+    }
+
+    /// Adds the values of a column, or of a part of one, at the end.
+    pub(crate) fn append(&mut self, more: &TextView<'_>) -> Result<(), NoMemory>
+        ensures ok { OnOk result (self.new ≡ self.old ++ more.now) }
+        ensures err { OnErr result (self.new ≡ self.old) }
+    {
+        let before = self.bytes.len();
+        let count = self.ends.len();
+        self.bytes.extend_from_slice(more.bytes())?;
+        if let Err(NoMemory) = append_ends(&mut self.ends, more, before) {
+            self.bytes.truncate(before);
+            return Err(NoMemory);
+        }
+        let (valid, from, to) = more.validity();
+        if let Err(NoMemory) = self.valid.append(valid, from, to) {
+            self.bytes.truncate(before);
+            self.ends.truncate(count);
+            return Err(NoMemory);
+        }
+        Ok(())
+    }
+}
+
+// Adds where one more value ends, and whether it is there.
+fn push_end(
+    ends: &mut Vec<usize>,
+    valid: &mut Bits,
+    end: usize,
+    is_valid: bool,
+) -> Result<(), NoMemory>
+    ensures ok_end { OnOk result (ends.new.items ≡ ends.old.items ++ end ∷ []) }
+    ensures ok_valid { OnOk result (valid.new ≡ valid.old ++ is_valid ∷ []) }
+    ensures err_end { OnErr result (ends.new.items ≡ ends.old.items) }
+    ensures err_valid { OnErr result (valid.new ≡ valid.old) }
+{
+    ends.push(end)?;
+    if let Err(NoMemory) = valid.push(is_valid) {
+        let _ = ends.pop();
+        return Err(NoMemory);
+    }
+    Ok(())
+}
+
+// Adds where the values end, if the first of them begins at `start`.
+fn append_ends(ends: &mut Vec<usize>, more: &TextView<'_>, start: usize) -> Result<(), NoMemory>
+    requires { start + length (concat (slots [] more.now)) < 2 ^ 64 }
+    ensures ok { OnOk result (ends.new.items ≡ ends.old.items ++ ends_of start (slots [] more.now)) }
+    ensures err { OnErr result (ends.new.items ≡ ends.old.items) }
+{
+    let count = ends.len();
+    for i in 0..more.len() {
+        if ends.push(start + more.offset(i + 1)).is_err() {
+            ends.truncate(count);
+            return Err(NoMemory);
+        }
+    }
+    Ok(())
+}

@@ -1,0 +1,11 @@
+//! Columns of texts and binaries: the bytes in one buffer, where each ends in another, validity beside
+//! them. Contracts see a column, a view and a builder as its list of optional byte lists.
+#![tactic(auto)]
+
+mod builder;
+mod column;
+mod view;
+
+pub use builder::TextBuilder;
+pub use column::TextCol;
+pub use view::TextView;

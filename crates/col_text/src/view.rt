@@ -1,0 +1,112 @@
+// A column of texts or binaries, or a part of one, lent without a copy.
+ghost use Rattle.std.specs.Prelude.{◌≡◌, ◌↔◌, ◌<◌, ◌≤◌, [], None, length, map, is_some, slice_index_or, option_copied, All, IfOk, IsTrue};
+ghost use Rattle.std.specs.List.{slice_range, concat};
+ghost use Rattle.sub_types.specs.Slots.{slots};
+ghost use Rattle.col_text.specs.Text.{offset_of};
+
+use crate::TextCol;
+use std::alloc::Global;
+use std::marker::Model;
+use sub_types::{Bits, NoMemory};
+
+/// A column of texts or binaries, or a part of one. Contracts see its list of optional byte lists.
+#[derive(Drop)]
+pub struct TextView<'a> {
+    column: &'a TextCol,
+    from: usize,
+    len: usize,
+}
+
+impl<'a> Model for TextView<'a> {
+    ghost use Rattle.std.specs.Prelude.{ℕ, ◌+◌, List, Option};
+    ghost use Rattle.std.specs.List.{slice_range};
+    ghost use Rattle.sub_types.specs.Part.{IsPart};
+
+    ghost Value = { List (Option (List ℕ)) };
+
+    ghost view = { λ part. slice_range part.column.now part.from (part.from + part.len) };
+
+    ghost invariant = { λ part. IsPart part.from part.len part.column.now };
+}
+
+impl<'a> TextView<'a> {
+    /// The whole column.
+    pub fn of(column: &'a TextCol) -> TextView<'a>
+        ensures { result ≡ column.now }
+    {
+        TextView {
+            column,
+            from: 0,
+            len: column.len(),
+        }
+    }
+
+    pub fn len(&self) -> usize
+        ensures { result ≡ length self.now }
+    {
+        self.len
+    }
+
+    pub fn is_empty(&self) -> bool
+        ensures { IsTrue result ↔ (self.now ≡ []) }
+    {
+        self.len == 0
+    }
+
+    /// The values from `from` to before `to`.
+    pub fn part(&self, from: usize, to: usize) -> TextView<'a>
+        requires rising { from ≤ to }
+        requires within { to ≤ length self.now }
+        ensures { result ≡ slice_range self.now from to }
+    {
+        TextView {
+            column: self.column,
+            from: self.from + from,
+            len: to - from,
+        }
+    }
+
+    pub fn value_at(&self, i: usize) -> Option<&'a [u8]>
+        requires { i < length self.now }
+        ensures { option_copied result ≡ slice_index_or self.now i None }
+    {
+        self.column.value_at(self.from + i)
+    }
+
+    /// Where in the bytes of this view the value at `i` begins, and behind the last where they end.
+    pub fn offset(&self, i: usize) -> usize
+        requires { i ≤ length self.now }
+        ensures { result ≡ offset_of (slots [] self.now) i }
+    {
+        let (begin, place) = self.column.extent(self.from, self.from + i);
+        place - begin
+    }
+
+    /// The bytes of all values, one behind the other. A null has none.
+    pub fn bytes(&self) -> &'a [u8]
+        ensures { result.now ≡ concat (slots [] self.now) }
+    {
+        self.column.bytes_between(self.from, self.from + self.len)
+    }
+
+    /// Which values are there: the bits of the column, and from where to where they are this view's.
+    pub fn validity(&self) -> (&'a Bits, usize, usize)
+        ensures rising { result.1 ≤ result.2 }
+        ensures within { result.2 ≤ length result.0.now }
+        ensures bits { slice_range result.0.now result.1 result.2 ≡ map is_some self.now }
+    {
+        (self.column.validity(), self.from, self.from + self.len)
+    }
+
+    /// The values at these places, in this order.
+    pub fn gather(&self, alloc: Global, at: &[u64]) -> Result<TextCol, NoMemory>
+        requires { All (λ i. i < length self.now) at.now }
+        ensures { IfOk result (λ column. column ≡ map (λ i. slice_index_or self.now i None) at.now) }
+    {
+        let mut column = TextCol::new(alloc);
+        for i in at {
+            column.push(self.value_at(*i as usize))?;
+        }
+        Ok(column)
+    }
+}
