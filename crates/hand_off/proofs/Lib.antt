@@ -1,0 +1,5 @@
+pub mod Bags
+pub mod Steps
+pub mod Popping
+pub mod Gains
+pub mod Notes

@@ -1,0 +1,4 @@
+pub mod Hand
+pub mod Rule
+pub mod Passes
+pub mod Work

@@ -1,0 +1,10 @@
+//! The numbers of a run's batches, which workers claim from one shared word: each number is drawn by one
+//! worker, once. A claim is one atomic exchange; it waits for nobody and takes no memory.
+#![tactic(auto)]
+
+mod claims;
+mod rule;
+mod seat;
+
+pub use claims::Claims;
+pub use seat::{ClaimSeat, Drawn, Ticket};

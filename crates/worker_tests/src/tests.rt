@@ -1,0 +1,7 @@
+// The tests of what no clause says.
+
+mod claims;
+mod hand;
+mod machine;
+mod meeting;
+mod workers;
