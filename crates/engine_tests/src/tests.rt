@@ -1,0 +1,10 @@
+// The folders, readers and notes in memory, the gate, and the base types.
+mod base_types;
+mod calls;
+mod failures;
+mod folders;
+mod notes;
+mod outcome;
+mod run;
+mod sure;
+mod worked;
