@@ -13,7 +13,7 @@ use Rattle.batch.specs.declared.batch.Batch.{Batch}
 use Rattle.batch.specs.declared.column.Column.{Column}
 use Rattle.batch.specs.Column.{column_values, column_type}
 use Rattle.batch.specs.BatchRows.{columns_of, column_of, types_of, rows_of}
-use Rattle.batch.specs.Rows.{transpose}
+use Rattle.sub_types.specs.Rows.{transpose}
 use Rattle.batch.proofs.RowLaws.{transpose-append, columns-all}
 
 -- as many columns as types

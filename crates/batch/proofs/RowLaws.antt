@@ -7,7 +7,7 @@ use Rattle.std.proofs.lemmas.List.{get_or-map as get_or-map_within, length-map, 
 use Rattle.std.proofs.lemmas.List.FromFn.{length-map-range_with_len, get_or-map-range_with_len, fill_by_all}
 use Rattle.std.proofs.lemmas.List.Elements.{All-head, All-tail}
 use Rattle.sub_types.specs.PartLaws.{length-part, get_or-part}
-use Rattle.batch.specs.Rows.{picked, across, transpose}
+use Rattle.sub_types.specs.Rows.{picked, across, transpose}
 
 -- as many rows as were asked for
 pub length-transpose : {X : Type 0} (d : X) (n : ℕ) (columns : List (List X)) → length (transpose d n columns) ≡ n

@@ -6,7 +6,7 @@ use Rattle.std.proofs.Math.ListN.{get_or-map}
 use Rattle.std.proofs.lemmas.List.{map-append}
 use Rattle.std.proofs.lemmas.List.Elements.{All-map, All-get_or, All-take, All-drop}
 use Rattle.sub_types.specs.PartLaws.{part-map}
-use Rattle.batch.specs.Rows.{picked}
+use Rattle.sub_types.specs.Rows.{picked}
 
 -- a function of the values at these places
 pub map-picked : {X Y : Type 0} (f : X → Y) (d : X) (at : List ℕ) (xs : List X) → map f (picked d at xs) ≡ picked (f d) at (map f xs)

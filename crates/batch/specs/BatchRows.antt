@@ -7,7 +7,7 @@ use Rattle.sub_types.specs.Stream.{Stream}
 use Rattle.batch.specs.declared.batch.Batch.{Batch}
 use Rattle.batch.specs.declared.batch.Piece.{Piece}
 use Rattle.batch.specs.Column.{column_values, column_type}
-use Rattle.batch.specs.Rows.{transpose}
+use Rattle.sub_types.specs.Rows.{transpose}
 
 -- the values of each column
 abbrev pub columns_of : Batch → List (List Value)

@@ -1,5 +1,4 @@
 pub mod ColumnValues
-pub mod Rows
 pub mod KindLaws
 pub mod Built
 pub mod BatchRows

@@ -2,7 +2,7 @@
 ghost use Rattle.std.specs.Prelude.{◌≡◌, ◌-◌, ◌<◌, ◌≤◌, [], length, vec_len, slice_index_or, All, IfOk};
 ghost use Rattle.std.specs.List.{slice_range};
 ghost use Rattle.batch.specs.BatchRows.{columns_of, rows_of, types_of};
-ghost use Rattle.batch.specs.Rows.{picked};
+ghost use Rattle.sub_types.specs.Rows.{picked};
 ghost use Rattle.sub_types.specs.declared.value.Value.TheVariants.{Null};
 
 use crate::Batch;

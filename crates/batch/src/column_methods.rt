@@ -2,7 +2,7 @@
 ghost use Rattle.std.specs.Prelude.{◌≡◌, ◌<◌, ◌≤◌, length, slice_index_or, All, IfOk};
 ghost use Rattle.std.specs.List.{slice_range};
 ghost use Rattle.batch.specs.ColumnValues.{values_of};
-ghost use Rattle.batch.specs.Rows.{picked};
+ghost use Rattle.sub_types.specs.Rows.{picked};
 ghost use Rattle.sub_types.specs.declared.value.Value.TheVariants.{Null};
 
 use crate::{Column, ColumnBuilder};

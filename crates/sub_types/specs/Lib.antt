@@ -7,3 +7,4 @@ pub mod OptionalLaws
 pub mod Part
 pub mod PartLaws
 pub mod Slots
+pub mod Rows

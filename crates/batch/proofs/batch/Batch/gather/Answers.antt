@@ -3,7 +3,7 @@ use Rattle.std.proofs.lemmas.List.{length-map}
 use Rattle.sub_types.specs.declared.value.Value.TheVariants.{Null}
 use Rattle.batch.specs.BatchRows.{columns_of}
 use Rattle.batch.proofs.Made.{Made-more, Made-values, Made-sized}
-use Rattle.batch.specs.Rows.{picked, transpose}
+use Rattle.sub_types.specs.Rows.{picked, transpose}
 use Rattle.batch.proofs.RowLaws.{transpose-picked}
 use Rattle.batch.proofs.batch.Batch.gather.Goals as goal
 

@@ -1,5 +1,5 @@
 use Rattle.sub_types.specs.declared.value.Value.TheVariants.{Null}
-use Rattle.batch.specs.Rows.{picked}
+use Rattle.sub_types.specs.Rows.{picked}
 use Rattle.batch.proofs.Made.{Made}
 use Rattle.batch.proofs.batch.Batch.gather.Given as goal
 

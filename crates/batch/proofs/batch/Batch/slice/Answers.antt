@@ -4,7 +4,7 @@ use Rattle.sub_types.specs.PartLaws.{length-part}
 use Rattle.sub_types.specs.declared.value.Value.TheVariants.{Null}
 use Rattle.batch.specs.BatchRows.{columns_of}
 use Rattle.batch.proofs.Made.{Made-more, Made-values, Made-sized}
-use Rattle.batch.specs.Rows.{transpose}
+use Rattle.sub_types.specs.Rows.{transpose}
 use Rattle.batch.proofs.RowLaws.{transpose-part}
 use Rattle.batch.proofs.batch.Batch.slice.Goals as goal
 

@@ -4,7 +4,7 @@ use Rattle.std.proofs.lemmas.List.Elements.{All-same}
 use Rattle.sub_types.specs.Value.{InKind}
 use Rattle.sub_types.specs.declared.value.Value.TheVariants.{Null}
 use Rattle.batch.specs.ColumnValues.{values_of}
-use Rattle.batch.specs.Rows.{picked}
+use Rattle.sub_types.specs.Rows.{picked}
 use Rattle.batch.proofs.ValueLaws.{All-picked}
 use Rattle.batch.proofs.column.Column.gather.Goals as goal
 
