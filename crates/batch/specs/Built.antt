@@ -7,7 +7,7 @@ use Rattle.batch.specs.declared.data_builder.DataBuilder.{DataBuilder}
 use Rattle.batch.specs.declared.data_builder.DataBuilder.TheVariants as built_as
 use Rattle.batch.specs.declared.storage.Storage.{Storage}
 use Rattle.batch.specs.declared.storage.Storage.TheVariants as storages
-use Rattle.batch.specs.ColumnValues.{bool_value, int_value, dec_value, bytes_value}
+use Rattle.sub_types.specs.Nullable.{bool_value, int_value, dec_value, bytes_value}
 
 -- the values so far
 abbrev pub built : DataBuilder → List Value

@@ -1,30 +1,13 @@
 -- The values of a column, and how they are stored.
-use Rattle.std.specs.Prelude.{ℕ, ℤ, List, Bool, Option, Some, None, map}
+use Rattle.std.specs.Prelude.{List, map}
 use Rattle.sub_types.specs.declared.kind.Kind.{Kind}
 use Rattle.sub_types.specs.declared.kind.Kind.TheVariants as kinds
 use Rattle.sub_types.specs.declared.value.Value.{Value}
-use Rattle.sub_types.specs.declared.value.Value.TheVariants as values
+use Rattle.sub_types.specs.Nullable.{bool_value, int_value, dec_value, bytes_value}
 use Rattle.batch.specs.declared.column_data.ColumnData.{ColumnData}
 use Rattle.batch.specs.declared.column_data.ColumnData.TheVariants as stored
 use Rattle.batch.specs.declared.storage.Storage.{Storage}
 use Rattle.batch.specs.declared.storage.Storage.TheVariants as storages
-
--- the value of a place, or null
-abbrev pub bool_value : Option Bool → Value
-bool_value (Some b) = values.Bool b
-bool_value None = values.Null
-
-abbrev pub int_value : Option ℤ → Value
-int_value (Some n) = values.Int n
-int_value None = values.Null
-
-abbrev pub dec_value : Option ℤ → Value
-dec_value (Some n) = values.Dec n
-dec_value None = values.Null
-
-abbrev pub bytes_value : Option (List ℕ) → Value
-bytes_value (Some bytes) = values.Bytes bytes
-bytes_value None = values.Null
 
 -- the values of a column
 abbrev pub values_of : ColumnData → List Value

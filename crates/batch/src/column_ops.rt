@@ -2,7 +2,7 @@
 ghost use Rattle.std.specs.Prelude.{◌≡◌, ◌<◌, ◌≤◌, length, slice_index_or, All, IfOk, option_copied};
 ghost use Rattle.std.specs.List.{slice_range};
 ghost use Rattle.batch.specs.ColumnValues.{values_of, storage_of};
-ghost use Rattle.batch.specs.ColumnValues as spec;
+ghost use Rattle.sub_types.specs.Nullable as spec;
 ghost use Rattle.sub_types.specs.Rows.{picked};
 ghost use Rattle.sub_types.specs.declared.value.Value.TheVariants.{Null};
 

@@ -8,3 +8,4 @@ pub mod Part
 pub mod PartLaws
 pub mod Slots
 pub mod Rows
+pub mod Nullable

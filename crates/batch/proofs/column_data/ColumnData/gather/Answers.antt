@@ -1,6 +1,6 @@
 -- In each arm the values at the places of the column are the column of the values at the places.
 use Rattle.std.proofs.Common.{None}
-use Rattle.batch.specs.ColumnValues.{bool_value, int_value, dec_value, bytes_value}
+use Rattle.sub_types.specs.Nullable.{bool_value, int_value, dec_value, bytes_value}
 use Rattle.batch.proofs.ValueLaws.{map-picked}
 use Rattle.batch.proofs.column_data.ColumnData.gather.Goals as goal
 

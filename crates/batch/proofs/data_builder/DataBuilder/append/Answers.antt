@@ -1,5 +1,5 @@
 -- In each arm a part of the column was added to the column that grows.
-use Rattle.batch.specs.ColumnValues.{bool_value, int_value, dec_value, bytes_value}
+use Rattle.sub_types.specs.Nullable.{bool_value, int_value, dec_value, bytes_value}
 use Rattle.batch.proofs.ValueLaws.{OnOk-grown}
 use Rattle.batch.proofs.data_builder.DataBuilder.append.Goals as goal
 use Rattle.batch.proofs.data_builder.DataBuilder.append.Goals.{in-Bool-Bool, in-I8-I8, in-I16-I16, in-I32-I32, in-I64-I64, in-I128-I128, in-Bytes-Bytes}
