@@ -2,3 +2,8 @@ pub mod Buffers
 pub mod Messages
 pub mod File
 pub mod Meta
+pub mod Looked
+pub mod Shapes
+pub mod Footer
+pub mod Message
+pub mod Seen

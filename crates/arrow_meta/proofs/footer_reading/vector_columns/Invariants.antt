@@ -1,0 +1,13 @@
+use Rattle.std.proofs.Common.{◌≡◌, IsOk}
+use Rattle.arrow_meta.specs.Looked.{◌>>=◌}
+use Rattle.arrow_meta.specs.Footer.{field_at, columns_from}
+use Rattle.arrow_meta.specs.Seen.{columns_of, items_of}
+use Rattle.arrow_meta.proofs.CollectLaws.{rest_of, prefixed}
+use Rattle.arrow_meta.proofs.footer_reading.vector_columns.Given as goal
+
+-- the columns so far and those of the fields that are left are all columns
+abbrev pub invariant-loop-i : goal.invariant-loop-i
+invariant-loop-i l = record {
+  readable : IsOk (rest_of (field_at l.fields) l.fields.count l.i);
+  columns : prefixed l.columns.items (rest_of (field_at l.fields) l.fields.count l.i >>= columns_from l.i) ≡ columns_of (items_of l.fields);
+}
