@@ -1,5 +1,5 @@
 -- Reading all elements of a vector, one after the other.
-use Rattle.std.proofs.Common.{◌≡◌, ◌∙◌, ℕ, zero, suc, ◌+◌, ◌-◌, ◌<◌, ◌≤◌, List, [], ◌∷◌, ◌++◌, Option, Some, None, Result, Ok, Err, IsOk, map, refl, sym, ap, subst, arith, add-zero, add-one}
+use Rattle.std.proofs.Common.{◌≡◌, ◌∙◌, ℕ, zero, suc, ◌+◌, ◌-◌, ◌<◌, ◌≤◌, List, [], ◌∷◌, ◌++◌, Option, Some, None, Result, Ok, Err, IsOk, length, get_or, map, refl, sym, ap, subst, arith, add-zero, add-one}
 use Rattle.std.specs.List.{range_with_len}
 use Rattle.std.proofs.lemmas.List.{append_assoc}
 use Rattle.arrow_meta.specs.declared.error.MetaError.{MetaError}
@@ -102,3 +102,12 @@ unsupported_column f n i front field below here unknown readable =
     ap (λ fields. prefixed front (fields >>= columns_from i)) (rest_of-step f n i below)
     ∙ ap (λ r. prefixed front (collect (r ∷ map f (range_with_len (i + 1) (n - (i + 1)))) >>= columns_from i)) here
     ∙ unsupported_step front field i (rest_of f n (i + 1)) unknown (rest_of-tail_ok f n i below readable)
+
+-- elements that can be read, one by one
+pub collect_all : {A : Type 0} (f : ℕ → Result A MetaError) (start : ℕ) (xs : List A) → ((k : ℕ) (d : A) → k < length xs → f (start + k) ≡ Ok (get_or xs k d))
+    → collect (map f (range_with_len start (length xs))) ≡ Ok xs
+collect_all f start [] each = refl
+collect_all f start (x ∷ xs) each =
+    let first : f start ≡ Ok x = ap f (sym (add-zero start)) ∙ each 0 x (omega arith) in
+    let others = collect_all f (start + 1) xs (λ k d below. let place : start + 1 + k ≡ start + suc k = omega arith in ap f place ∙ each (suc k) d (omega arith)) in
+    rw (first, others) refl

@@ -1,3 +1,6 @@
 mod Worked
 pub mod Lengths
 pub mod CollectLaws
+pub mod BackLaws
+pub mod MessageBack
+pub mod FooterBack

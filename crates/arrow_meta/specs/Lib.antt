@@ -7,3 +7,4 @@ pub mod Shapes
 pub mod Footer
 pub mod Message
 pub mod Seen
+pub mod Written

@@ -1,16 +1,19 @@
 // The footer of a file (File.fbs, `Footer`).
-ghost use Rattle.std.specs.Prelude.{◌≡◌, ◌≤◌, ◌<◌, ◌^◌, IfOk, length, map, vec_len};
-ghost use Rattle.std.specs.List.{sum_by};
+ghost use Rattle.std.specs.Prelude.{◌≡◌, ◌≤◌, ◌<◌, ◌^◌, IfOk, Ok, length, map, vec_len};
+ghost use Rattle.std.specs.List.{sum_by, All};
 ghost use Rattle.fb_bytes.specs.Layout.{buffer_of};
 ghost use Rattle.fb_bytes.specs.Object.{laid, IsSoundTable};
 ghost use Rattle.arrow_meta.specs.Messages.{footer_laid};
 ghost use Rattle.arrow_meta.specs.Meta.{place_of};
+ghost use Rattle.arrow_meta.specs.Footer.{footer_in};
+ghost use Rattle.arrow_meta.specs.Written.{IsBlock, written_footer};
+ghost use Rattle.sub_types.specs.Kind.{IsKind};
 
 use crate::Block;
 use crate::message::root_bytes;
 use crate::schema::schema_object;
 use crate::structs::blocks_bytes;
-use fb_bytes::{FbField, FbObject, laid_lengths};
+use fb_bytes::{FbField, FbObject, laid_lengths, laid_reads_back};
 use std::alloc::Global;
 use sub_types::{ByteList, NoMemory, Ty};
 
@@ -27,10 +30,13 @@ pub fn write_footer(
     requires short { sum_by length names.now ≤ 16777216 }
     requires few_blocks { length blocks.now ≤ 2 ^ 26 }
     ensures bytes { IfOk result (λ bytes. bytes.items ≡ buffer_of (footer_laid names.now types.now (map place_of blocks.now))) }
+    ensures reads_back { All (λ ty. IsKind ty.kind) types.now
+        → IfOk result (λ bytes. footer_in bytes.items ≡ Ok (written_footer names.now types.now blocks.now)) }
     ensures small { IfOk result (λ bytes. vec_len bytes < 2 ^ 31) }
 {
     let root = footer_object(alloc, names, types, blocks)?;
     laid_lengths();
+    laid_reads_back();
     root_bytes(alloc, &root)
 }
 
@@ -43,6 +49,7 @@ fn footer_object(
     requires { length names.now ≡ length types.now }
     ensures laid { IfOk result (λ object. laid object ≡ footer_laid names.now types.now (map place_of blocks.now)) }
     ensures sound { IfOk result (λ object. IsSoundTable object) }
+    ensures fits { IfOk result (λ _. All IsBlock blocks.now) }
 {
     let schema = schema_object(alloc, names, types)?;
     let dictionaries = FbObject::of_structs(24, ByteList::from_vec(Vec::new(alloc)));

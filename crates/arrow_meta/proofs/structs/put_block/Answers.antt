@@ -5,8 +5,8 @@ use Rattle.byteorder.specs.Endian.{little_bytes}
 use Rattle.arrow_meta.proofs.Lengths.{appended}
 use Rattle.arrow_meta.proofs.structs.put_block.Goals as goal
 
-pub returns : goal.returns
-returns c =
+pub returns-clause-bytes : goal.returns-clause-bytes
+returns-clause-bytes c =
     let out = c.args.out.now.items in
     let offset = little_bytes 8 (cast_unsigned w64 c.args.block.now.offset) in
     let meta_len = little_bytes 4 (cast_unsigned w32 c.args.block.now.meta_len) in

@@ -5,8 +5,8 @@ use Rattle.byteorder.specs.Endian.{little_bytes}
 use Rattle.arrow_meta.proofs.Lengths.{appended}
 use Rattle.arrow_meta.proofs.structs.put_pair.Goals as goal
 
-pub returns : goal.returns
-returns c =
+pub returns-clause-bytes : goal.returns-clause-bytes
+returns-clause-bytes c =
     let out = c.args.out.now.items in
     let first = ap (λ z. little_bytes 8 (cast_unsigned w64 z)) (to_z-of_z w64 c.args.pair.now.0 (search rules)) in
     let second = ap (λ z. little_bytes 8 (cast_unsigned w64 z)) (to_z-of_z w64 c.args.pair.now.1 (search rules)) in
