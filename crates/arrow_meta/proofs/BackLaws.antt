@@ -67,10 +67,10 @@ pub structs_back : {A : Type 0} (f : A → List ℕ) (read : List ℕ → A) (wi
     → All (λ x. read (f x) ≡ x) xs → map (λ i. read (item i)) (range_with_len 0 n) ≡ xs
 structs_back f read width n item xs long count items back =
     same_lists _ _ (length-map-range_with_len (λ i. read (item i)) 0 n ∙ count) (λ k d h.
-      let below : k < n = omega (arith, h, length-map-range_with_len (λ i. read (item i)) 0 n) in
-      let within : k < length xs = omega arith in
-      get_or-map-range_with_len (λ i. read (item i)) 0 n k k d below (zero-add k)
-      ∙ ap read (items k below ∙ struct_at f width long xs k d within) ∙ back k d within)
+    let below : k < n = omega (arith, h, length-map-range_with_len (λ i. read (item i)) 0 n) in
+    let within : k < length xs = omega arith in
+    get_or-map-range_with_len (λ i. read (item i)) 0 n k k d below (zero-add k)
+    ∙ ap read (items k below ∙ struct_at f width long xs k d within) ∙ back k d within)
 
 -- what is laid out of each of several values
 pub flat_map-map : {A B : Type 0} (f : B → List ℕ) (g : A → B) (xs : List A) → flat_map f (map g xs) ≡ flat_map (λ x. f (g x)) xs

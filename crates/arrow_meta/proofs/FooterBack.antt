@@ -100,8 +100,16 @@ field_sound laws name ty =
 tag_back : (t : TableAt) (kind : Kind) → scalar_of t 2 1 ≡ Ok (Some (type_tag kind % 256 ^ 1)) → number_in t 2 1 0 ≡ Ok (type_tag kind)
 tag_back t kind h =
     let low : type_tag kind % 256 ^ 1 ≡ type_tag kind = elim kind as (λ k. type_tag k % 256 ^ 1 ≡ type_tag k) [
-      | kinds.Bool ↦ refl | kinds.I8 ↦ refl | kinds.I16 ↦ refl | kinds.I32 ↦ refl | kinds.I64 ↦ refl | kinds.Text ↦ refl | kinds.Binary ↦ refl | kinds.Date ↦ refl
-      | kinds.Timestamp ↦ refl | kinds.Decimal precision scale ↦ refl
+      | kinds.Bool ↦ refl
+      | kinds.I8 ↦ refl
+      | kinds.I16 ↦ refl
+      | kinds.I32 ↦ refl
+      | kinds.I64 ↦ refl
+      | kinds.Text ↦ refl
+      | kinds.Binary ↦ refl
+      | kinds.Date ↦ refl
+      | kinds.Timestamp ↦ refl
+      | kinds.Decimal precision scale ↦ refl
     ] in number_there t 2 1 (type_tag kind % 256 ^ 1) 0 h ∙ ap (λ n. Ok n) low
 
 -- whether a field is nullable reads back
@@ -189,16 +197,16 @@ fields_back laws bytes t names types small same valid table =
     let ty : Ty = record { kind = kinds.Bool; nullable = false } in
     let count : vector.count ≡ length (fields_of names types) = found.2.count ∙ length-fields_laid names types same ∙ sym (length-fields_of names types same) in
     let each = collect_all (field_at vector) 0 (fields_of names types) (λ k d below.
-      let within : k < length names = omega (arith, length-fields_of names types same) in
-      let name = get_or names k [] in
-      let type = get_or types k ty in
-      let P : Option Laid → Type 0 = λ o. ReadsItem vector k o in
-      let item = laws.item vector k (field_parts name type) short_vector (field_sound laws name type) (subst P (laid_at names types k ty same within) (found.2.items k)) in
-      let kind = valid k ty (omega arith) in
-      let read = field_back laws vector.bytes item.0 name type short_vector kind item.2 in
-      let place : 0 + k ≡ k = zero-add k in
-      let here : field_at vector k ≡ Ok (field_of name type) = rw item.1 read in
-      ap (field_at vector) place ∙ here ∙ ap (λ f. Ok f) (sym (field_of_at names types k ty d same within))) in
+    let within : k < length names = omega (arith, length-fields_of names types same) in
+    let name = get_or names k [] in
+    let type = get_or types k ty in
+    let P : Option Laid → Type 0 = λ o. ReadsItem vector k o in
+    let item = laws.item vector k (field_parts name type) short_vector (field_sound laws name type) (subst P (laid_at names types k ty same within) (found.2.items k)) in
+    let kind = valid k ty (omega arith) in
+    let read = field_back laws vector.bytes item.0 name type short_vector kind item.2 in
+    let place : 0 + k ≡ k = zero-add k in
+    let here : field_at vector k ≡ Ok (field_of name type) = rw item.1 read in
+    ap (field_at vector) place ∙ here ∙ ap (λ f. Ok f) (sym (field_of_at names types k ty d same within))) in
     rw (endianness, found.1) (ap (λ n. collect (map (field_at vector) (range_with_len 0 n))) count ∙ each)
 
 -- the blocks in a slot
@@ -212,7 +220,7 @@ blocks_back laws t slot blocks small fits reads =
     let count : found.0.count ≡ length blocks = omega (arith, found.2.count, long, length-map blocks place_of) in
     let each = flat_map-map block_bytes place_of blocks in
     rw found.1 (ap (λ xs. Ok xs) (structs_back (λ block. block_bytes (place_of block)) block_in 24 found.0.count (item_of found.0) blocks (λ block. refl) count
-      (λ i below. found.2.items i below ∙ ap (λ all. take 24 (drop (24 * i) all)) each) (λ k d below. block_back (get_or blocks k d) (fits k d below))))
+    (λ i below. found.2.items i below ∙ ap (λ all. take 24 (drop (24 * i) all)) each) (λ k d below. block_back (get_or blocks k d) (fits k d below))))
 
 -- the schema of a footer
 schema_parts : List (List ℕ) → List Ty → List Part

@@ -87,7 +87,7 @@ pairs_back laws t slot pairs small fits reads =
     let count : found.0.count ≡ length pairs = omega (arith, found.2.count, long, length-map pairs unsigned_pair) in
     let each = flat_map-map pair_bytes unsigned_pair pairs in
     rw found.1 (ap (λ xs. Ok xs) (structs_back (λ pair. pair_bytes (unsigned_pair pair)) pair_in 16 found.0.count (item_of found.0) pairs (λ pair. refl) count
-      (λ i below. found.2.items i below ∙ ap (λ all. take 16 (drop (16 * i) all)) each) (λ k d below. pair_back (get_or pairs k d) (fits k d below))))
+    (λ i below. found.2.items i below ∙ ap (λ all. take 16 (drop (16 * i) all)) each) (λ k d below. pair_back (get_or pairs k d) (fits k d below))))
 
 -- a record batch
 pub batch_back : Laws → (bytes : List ℕ) (t : TableAt) (meta : RecordMeta) → length bytes < 2 ^ 31 → IsMeta meta

@@ -8,3 +8,10 @@ pub mod Footer
 pub mod Message
 pub mod Seen
 pub mod Written
+pub mod Optional
+pub mod Places
+pub mod Values
+pub mod Batch
+pub mod Dictionary
+pub mod Head
+pub mod Table

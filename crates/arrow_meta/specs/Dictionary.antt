@@ -1,0 +1,69 @@
+-- The dictionaries of a file (Arrow columnar format, "Dictionary Messages").
+use Rattle.std.specs.Prelude.{ℕ, suc, ◌^◌, ℤ, List, [], ◌∷◌, length, map, filter, Bool, true, Option, Some, None, ◌&&◌, nat_lt}
+use Rattle.std.specs.List.{list_all, flat_map}
+use Rattle.std.specs.Ordering.{int_eq}
+use Rattle.sub_types.specs.declared.kind.Kind.TheVariants as kinds
+use Rattle.arrow_meta.specs.declared.field.FieldMeta.{FieldMeta}
+use Rattle.arrow_meta.specs.declared.field.Layout.{Layout}
+use Rattle.arrow_meta.specs.declared.field.Layout.TheVariants.{Plain, Wide, Index}
+use Rattle.arrow_meta.specs.declared.field.Shape.{Shape}
+use Rattle.arrow_meta.specs.declared.field.Shape.TheVariants.{Known, Skip}
+use Rattle.arrow_meta.specs.Message.{DictionaryMeta}
+use Rattle.arrow_meta.specs.Optional.{◌>>=◌, when, all_of}
+use Rattle.arrow_meta.specs.Values.{validity_in, texts_in}
+use Rattle.arrow_meta.specs.Batch.{count_in, column_buffers}
+
+-- a dictionary block: what its metadata says, and its body
+pub record DictionaryBlock : Type 0 where
+  pub meta : DictionaryMeta
+  pub body : List ℕ
+
+-- the texts in the buffers of a column of texts
+abbrev pub buffer_texts : Bool → ℕ → List (List ℕ) → Option (List (Option (List ℕ)))
+buffer_texts wide count (validity ∷ offsets ∷ bytes ∷ []) = validity_in count validity >>= λ valid. texts_in wide count valid offsets bytes
+buffer_texts wide count buffers = None
+
+-- a block's values, as a batch of one column of texts
+unfoldable pub block_texts : Bool → DictionaryBlock → Option (List (Option (List ℕ)))
+block_texts wide block = do
+  count ← count_in (3 ∷ []) block.meta.values
+  buffers ← column_buffers (3 ∷ []) block.meta.values block.body count 0
+  buffer_texts wide count buffers
+
+-- all blocks but the first add to those before
+abbrev pub are_deltas : List DictionaryBlock → Bool
+are_deltas [] = true
+are_deltas (first ∷ others) = list_all (λ block. block.meta.is_delta) others
+
+-- one list behind the other
+abbrev pub joined : List (List (Option (List ℕ))) → List (Option (List ℕ))
+joined lists = flat_map (λ xs. xs) lists
+
+-- the values of the blocks of one dictionary
+unfoldable pub texts_of : Bool → List DictionaryBlock → Option (List (Option (List ℕ)))
+texts_of wide blocks = do
+  lists ← when (are_deltas blocks) (all_of (map (block_texts wide) blocks))
+  when (nat_lt (length (joined lists)) (2 ^ 31)) (Some (joined lists))
+
+-- the values of the dictionary of this id; bad where the metadata of some block is
+unfoldable pub dictionary_texts : ℤ → Bool → List (Option DictionaryBlock) → Option (List (Option (List ℕ)))
+dictionary_texts id wide blocks = do
+  good ← all_of blocks
+  texts_of wide (filter (λ block. int_eq block.meta.id id) good)
+
+-- the dictionary of a column of indices, none where it is bad
+pub record ColumnDictionary : Type 0 where
+  pub column : ℕ
+  pub values : Option (List (Option (List ℕ)))
+
+-- the dictionaries of the columns of indices, from the column i on
+abbrev pub dictionaries_from : List (Option DictionaryBlock) → ℕ → List FieldMeta → List ColumnDictionary
+dictionaries_from blocks i [] = []
+dictionaries_from blocks i (field ∷ fields) = elim field.shape [
+  | Known kind layout ↦ elim layout [
+    | Plain ↦ dictionaries_from blocks (suc i) fields
+    | Wide ↦ dictionaries_from blocks (suc i) fields
+    | Index id width signed wide ↦ record { column = i; values = dictionary_texts id wide blocks } ∷ dictionaries_from blocks (suc i) fields
+  ]
+  | Skip buffers ↦ dictionaries_from blocks (suc i) fields
+]
