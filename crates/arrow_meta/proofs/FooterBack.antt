@@ -1,7 +1,6 @@
 -- What was laid out as a footer reads back.
-use Rattle.std.proofs.Common.{rules, tests, ◌≡◌, ◌∙◌, ℕ, zero, suc, ◌+◌, ◌*◌, ◌^◌, ◌<◌, ◌≤◌, ◌%◌, ℤ, Bool, true, false, cond, List, [], ◌∷◌, ◌++◌, length, map, take, drop, get_or, Option, Some, None, Ok, refl, sym, ap, subst, arith, zero-add, ◌&&◌, nat_le, not, ◌==◌, if◌then◌else◌}
+use Rattle.std.proofs.Common.{rules, tests, ◌≡◌, ◌∙◌, ℕ, zero, suc, ◌+◌, ◌*◌, ◌^◌, ◌<◌, ◌%◌, Bool, true, false, List, [], ◌∷◌, length, map, take, drop, get_or, Option, Some, Ok, refl, sym, ap, subst, arith, zero-add, not, ◌==◌, if◌then◌else◌}
 use Rattle.std.specs.List.{range_with_len, flat_map, All, slice_get}
-use Rattle.std.specs.Int.{w32, w64, cast_signed, cast_unsigned}
 use Rattle.std.proofs.Math.Nat.{mod-eq_of_lt}
 use Rattle.std.proofs.lemmas.List.{length-map}
 use Rattle.std.proofs.lemmas.Option.{get_or_from_slice_get}
@@ -10,25 +9,21 @@ use Rattle.sub_types.specs.declared.kind.Kind.{Kind}
 use Rattle.sub_types.specs.declared.kind.Kind.TheVariants as kinds
 use Rattle.sub_types.specs.declared.kind.Ty.{Ty}
 use Rattle.fb_bytes.specs.Layout.{Laid, Part, Number, Offset, table_laid, tables_laid, structs_laid, text_laid, buffer_of}
-use Rattle.fb_bytes.specs.Object.{AreStructs}
-use Rattle.fb_bytes.specs.Reading.{TableAt, VectorAt, root_of, scalar_of, table_of, vector_of, text_of, item_of, table_item}
-use Rattle.fb_bytes.specs.ReadBack.{AreParts, ReadsSlot, ReadsItem, IsTableOf, IsTablesOf, IsStructsOf, IsNear, AreNear}
-use Rattle.arrow_meta.specs.declared.field.FieldMeta.{FieldMeta}
+use Rattle.fb_bytes.specs.Reading.{TableAt, scalar_of, item_of}
+use Rattle.fb_bytes.specs.ReadBack.{AreParts, ReadsSlot, ReadsItem, IsTableOf, IsNear, AreNear}
 use Rattle.arrow_meta.specs.declared.field.Layout.TheVariants as layouts
-use Rattle.arrow_meta.specs.declared.field.Shape.{Shape}
-use Rattle.arrow_meta.specs.declared.field.Shape.TheVariants.{Known, Skip}
+use Rattle.arrow_meta.specs.declared.field.Shape.TheVariants.{Known}
 use Rattle.arrow_meta.specs.declared.meta.Block.{Block}
-use Rattle.arrow_meta.specs.declared.shape.IntType.{IntType}
-use Rattle.arrow_meta.specs.Messages.{type_tag, type_laid, field_laid, fields_laid, schema_laid, footer_laid, block_bytes, Place}
+use Rattle.arrow_meta.specs.Messages.{type_tag, type_laid, field_laid, fields_laid, footer_laid, block_bytes}
 use Rattle.arrow_meta.specs.Meta.{place_of}
-use Rattle.arrow_meta.specs.Looked.{looked, collect, number_in, table_in}
+use Rattle.arrow_meta.specs.Looked.{collect, number_in}
 use Rattle.arrow_meta.specs.Shapes.{int_in, number_shape, decimal_in, date_in, timestamp_in, type_shape, encoding_in, shape_in, is_decimal}
-use Rattle.arrow_meta.specs.Footer.{Field, Footer, field_in, field_at, fields_in, blocks_in, block_at, block_in, columns_from, footer_in}
+use Rattle.arrow_meta.specs.Footer.{Field, field_in, field_at, fields_in, blocks_in, block_at, block_in, columns_from, footer_in}
 use Rattle.arrow_meta.proofs.Lengths.{blocks_length, blocks_are_structs}
 use Rattle.arrow_meta.specs.Written.{IsBlock, columns_of, written_footer}
 use Rattle.arrow_meta.proofs.CollectLaws.{collect_all}
 use Rattle.arrow_meta.proofs.BackLaws.{block_back, structs_back, flat_map-map}
-use Rattle.arrow_meta.proofs.MessageBack.{Laws, number_there, number_absent, table_there, same_table, short}
+use Rattle.arrow_meta.proofs.MessageBack.{Laws, number_there, table_there, same_table, short}
 
 -- the type table of whole numbers of a width
 abbrev int_parts : ℕ → List Part

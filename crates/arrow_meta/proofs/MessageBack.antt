@@ -1,20 +1,18 @@
 -- What was laid out as a record batch message reads back.
-use Rattle.std.proofs.Common.{rules, ◌≡◌, ◌∙◌, ℕ, ◌+◌, ◌*◌, ◌^◌, ◌<◌, ◌≤◌, ◌%◌, ℤ, List, [], ◌∷◌, ◌++◌, length, map, take, drop, get_or, Option, Some, None, Ok, refl, sym, ap, subst, arith, FitsSigned}
-use Rattle.std.specs.List.{range_with_len, flat_map, All}
-use Rattle.std.specs.Int.{w64, cast_signed, cast_unsigned}
+use Rattle.std.proofs.Common.{rules, ◌≡◌, ◌∙◌, ℕ, ◌*◌, ◌^◌, ◌<◌, ◌%◌, ℤ, List, [], ◌∷◌, length, map, take, drop, get_or, Some, None, Ok, refl, ap, subst, arith, FitsSigned}
+use Rattle.std.specs.List.{flat_map, All}
+use Rattle.std.specs.Int.{w64, cast_unsigned}
 use Rattle.std.proofs.Math.Nat.{mod-eq_of_lt}
 use Rattle.std.proofs.Math.Facts.{to_z-of_z, Fits-of_z, Fits-lt-pow}
 use Rattle.std.proofs.lemmas.List.{length-map}
-use Rattle.fb_bytes.specs.Layout.{Laid, Part, Number, Offset, table_laid, structs_laid, buffer_of}
-use Rattle.fb_bytes.specs.Object.{AreStructs}
-use Rattle.fb_bytes.specs.Reading.{TableAt, VectorAt, root_of, scalar_of, table_of, vector_of, item_of}
-use Rattle.fb_bytes.specs.ReadBack.{AreParts, ReadsSlot, IsTableOf, IsStructsOf, IsNear}
-use Rattle.fb_bytes.specs.Laws.{RootReadsBack, TableReadsBack, TablesReadBack, ItemReadsBack, StructsReadBack, TextReadsBack, AbsenceReadsBack, IsAbsent, LaidIsNear}
+use Rattle.fb_bytes.specs.Layout.{Part, Number, Offset, table_laid, structs_laid, buffer_of}
+use Rattle.fb_bytes.specs.Reading.{TableAt, scalar_of, table_of, item_of}
+use Rattle.fb_bytes.specs.ReadBack.{AreParts, ReadsSlot, IsTableOf, IsNear}
+use Rattle.fb_bytes.specs.Laws.{RootReadsBack, TableReadsBack, TablesReadBack, ItemReadsBack, StructsReadBack, TextReadsBack, AbsenceReadsBack, LaidIsNear}
 use Rattle.arrow_meta.specs.declared.meta.RecordMeta.{RecordMeta}
-use Rattle.arrow_meta.specs.Messages.{message_laid, record_laid, pair_bytes}
+use Rattle.arrow_meta.specs.Messages.{message_laid, pair_bytes}
 use Rattle.arrow_meta.specs.Meta.{unsigned_pair, record_of}
 use Rattle.arrow_meta.specs.Looked.{number_in, table_in}
-use Rattle.arrow_meta.specs.Footer.{each_of}
 use Rattle.arrow_meta.specs.Message.{header_in, pair_in, pair_at, pairs_in, batch_in, record_in}
 use Rattle.arrow_meta.specs.Written.{IsPair, IsMeta}
 use Rattle.arrow_meta.proofs.Lengths.{pairs_length, pairs_are_structs}

@@ -1,7 +1,6 @@
 -- What a record batch holds, or that it is bad (Arrow columnar format, "RecordBatch message").
-use Rattle.std.specs.Prelude.{ℕ, ◌+◌, ◌*◌, ◌^◌, ℤ, pos, List, [], ◌∷◌, length, map, take, drop, Bool, Option, Some, None, false, ◌&&◌, ◌==◌, nat_le, nat_lt, slice_index, if◌then◌else◌}
+use Rattle.std.specs.Prelude.{ℕ, ◌+◌, ◌^◌, ℤ, pos, List, [], ◌∷◌, length, map, take, drop, Bool, Option, Some, None, false, ◌&&◌, ◌==◌, nat_le, nat_lt, slice_index}
 use Rattle.std.specs.List.{slice_range, slice_get, sum}
-use Rattle.std.specs.Option.{option_and_then}
 use Rattle.std.specs.Ordering.{int_eq}
 use Rattle.sub_types.specs.Rows.{transpose}
 use Rattle.sub_types.specs.declared.kind.Kind.{Kind}
@@ -9,7 +8,7 @@ use Rattle.sub_types.specs.declared.kind.Kind.TheVariants as kinds
 use Rattle.sub_types.specs.declared.value.Value.{Value}
 use Rattle.sub_types.specs.declared.value.Value.TheVariants.{Null}
 use Rattle.arrow_meta.specs.declared.field.Layout.{Layout}
-use Rattle.arrow_meta.specs.declared.field.Layout.TheVariants.{Plain, Wide, Index}
+use Rattle.arrow_meta.specs.declared.field.Layout.TheVariants.{Index}
 use Rattle.arrow_meta.specs.declared.field.Shape.{Shape}
 use Rattle.arrow_meta.specs.declared.field.Shape.TheVariants.{Known, Skip}
 use Rattle.arrow_meta.specs.declared.meta.RecordMeta.{RecordMeta}

@@ -1,13 +1,11 @@
 -- The dictionaries of a file (Arrow columnar format, "Dictionary Messages").
-use Rattle.std.specs.Prelude.{ℕ, suc, ◌^◌, ℤ, List, [], ◌∷◌, length, map, filter, Bool, true, Option, Some, None, ◌&&◌, nat_lt}
+use Rattle.std.specs.Prelude.{ℕ, suc, ◌^◌, ℤ, List, [], ◌∷◌, length, map, filter, Bool, true, Option, Some, None, nat_lt}
 use Rattle.std.specs.List.{list_all, flat_map}
 use Rattle.std.specs.Ordering.{int_eq}
-use Rattle.sub_types.specs.declared.kind.Kind.TheVariants as kinds
 use Rattle.arrow_meta.specs.declared.field.FieldMeta.{FieldMeta}
-use Rattle.arrow_meta.specs.declared.field.Layout.{Layout}
 use Rattle.arrow_meta.specs.declared.field.Layout.TheVariants.{Plain, Wide, Index}
-use Rattle.arrow_meta.specs.declared.field.Shape.{Shape}
 use Rattle.arrow_meta.specs.declared.field.Shape.TheVariants.{Known, Skip}
+use Rattle.arrow_meta.specs.declared.meta.RecordMeta.{RecordMeta}
 use Rattle.arrow_meta.specs.Message.{DictionaryMeta}
 use Rattle.arrow_meta.specs.Optional.{◌>>=◌, when, all_of}
 use Rattle.arrow_meta.specs.Values.{validity_in, texts_in}
@@ -23,12 +21,16 @@ abbrev pub buffer_texts : Bool → ℕ → List (List ℕ) → Option (List (Opt
 buffer_texts wide count (validity ∷ offsets ∷ bytes ∷ []) = validity_in count validity >>= λ valid. texts_in wide count valid offsets bytes
 buffer_texts wide count buffers = None
 
--- a block's values, as a batch of one column of texts
-unfoldable pub block_texts : Bool → DictionaryBlock → Option (List (Option (List ℕ)))
-block_texts wide block = do
-  count ← count_in (3 ∷ []) block.meta.values
-  buffers ← column_buffers (3 ∷ []) block.meta.values block.body count 0
+-- the values of a batch of one column of texts
+unfoldable pub batch_texts : Bool → RecordMeta → List ℕ → Option (List (Option (List ℕ)))
+batch_texts wide values body = do
+  count ← count_in (3 ∷ []) values
+  buffers ← column_buffers (3 ∷ []) values body count 0
   buffer_texts wide count buffers
+
+-- the values of a block
+abbrev pub block_texts : Bool → DictionaryBlock → Option (List (Option (List ℕ)))
+block_texts wide block = batch_texts wide block.meta.values block.body
 
 -- all blocks but the first add to those before
 abbrev pub are_deltas : List DictionaryBlock → Bool

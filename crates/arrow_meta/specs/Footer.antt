@@ -3,7 +3,7 @@ use Rattle.std.specs.Prelude.{ℕ, suc, List, [], ◌∷◌, Bool, Option, Some,
 use Rattle.std.specs.List.{range_with_len}
 use Rattle.std.specs.Int.{w32, w64, cast_signed}
 use Rattle.byteorder.specs.Endian.{little_number}
-use Rattle.fb_bytes.specs.Reading.{TableAt, VectorAt, root_of, table_of, text_of, vector_of, item_of, table_item}
+use Rattle.fb_bytes.specs.Reading.{TableAt, VectorAt, root_of, text_of, vector_of, item_of, table_item}
 use Rattle.arrow_meta.specs.declared.error.MetaError.{MetaError}
 use Rattle.arrow_meta.specs.declared.error.MetaError.TheVariants.{Unsupported}
 use Rattle.arrow_meta.specs.declared.field.FieldMeta.{FieldMeta}

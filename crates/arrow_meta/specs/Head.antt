@@ -1,5 +1,5 @@
 -- What an Arrow file says of its columns and batches, or why it isn't read (Arrow columnar format, "IPC File Format").
-use Rattle.std.specs.Prelude.{ℕ, ◌-◌, List, [], ◌∷◌, length, map, Bool, true, false, Option, Some, None, Result, Ok, Err, not, ◌||◌, if◌then◌else◌}
+use Rattle.std.specs.Prelude.{ℕ, ◌-◌, List, [], length, map, Bool, true, false, Option, Some, None, Result, Ok, Err, not, ◌||◌, if◌then◌else◌}
 use Rattle.std.specs.List.{slice_range, list_any}
 use Rattle.std.specs.Option.{ok_or}
 use Rattle.std.specs.Result.{result_ok}

@@ -1,5 +1,5 @@
 -- Where the parts of an Arrow file stand (Arrow columnar format, "IPC File Format").
-use Rattle.std.specs.Prelude.{ℕ, ◌+◌, ◌-◌, ℤ, List, length, take, drop, replicate, Bool, Option, Some, None, Result, Ok, Err, not, ◌&&◌, nat_le, if◌then◌else◌}
+use Rattle.std.specs.Prelude.{ℕ, ◌+◌, ◌-◌, ℤ, List, length, take, drop, replicate, Bool, Option, Some, ◌&&◌, nat_le}
 use Rattle.std.specs.Str.{bytes_eq}
 use Rattle.std.specs.Int.{w32, cast_signed}
 use Rattle.byteorder.specs.Endian.{little_number}

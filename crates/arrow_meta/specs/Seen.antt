@@ -1,5 +1,5 @@
 -- What the calls that read metadata give, as the definitions see it.
-use Rattle.std.specs.Prelude.{ℕ, ℤ, List, Bool, Option, Result, Ok, Err, Vec, map}
+use Rattle.std.specs.Prelude.{ℤ, List, Bool, Option, Result, Ok, Err, Vec, map}
 use Rattle.std.specs.List.{range_with_len}
 use Rattle.std.specs.declared.alloc.Global.{Global}
 use Rattle.fb_bytes.specs.Reading.{VectorAt}

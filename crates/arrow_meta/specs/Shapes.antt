@@ -1,11 +1,9 @@
 -- What is known of a column from its type's tag, its type table and its dictionary (Schema.fbs, `Field`).
-use Rattle.std.specs.Prelude.{ℕ, ◌/◌, ℤ, Bool, true, false, Option, Some, None, Result, Ok, ◌==◌, ◌||◌, ◌&&◌, not, is_some, nat_le, if◌then◌else◌}
+use Rattle.std.specs.Prelude.{ℕ, ◌/◌, Bool, true, false, Option, Some, None, Result, Ok, ◌==◌, ◌||◌, ◌&&◌, not, is_some, nat_le, if◌then◌else◌}
 use Rattle.std.specs.Int.{w64, cast_signed}
 use Rattle.fb_bytes.specs.Reading.{TableAt, table_of, text_of}
-use Rattle.sub_types.specs.declared.kind.Kind.{Kind}
 use Rattle.sub_types.specs.declared.kind.Kind.TheVariants as kinds
 use Rattle.arrow_meta.specs.declared.error.MetaError.{MetaError}
-use Rattle.arrow_meta.specs.declared.field.Layout.{Layout}
 use Rattle.arrow_meta.specs.declared.field.Layout.TheVariants as layouts
 use Rattle.arrow_meta.specs.declared.field.Shape.{Shape}
 use Rattle.arrow_meta.specs.declared.field.Shape.TheVariants.{Known, Skip}

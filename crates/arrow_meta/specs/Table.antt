@@ -1,17 +1,14 @@
 -- The table that an Arrow file holds.
-use Rattle.std.specs.Prelude.{◌≡◌, ℕ, ◌^◌, ◌<◌, ◌==◌, List, [], ◌∷◌, length, map, Bool, Option, Some, None, slice_get}
+use Rattle.std.specs.Prelude.{◌≡◌, ℕ, ◌^◌, ◌<◌, ◌==◌, List, length, map, Option, Some, None, slice_get}
 use Rattle.std.specs.List.{range_with_len, flat_map, filter_map, find, All}
-use Rattle.std.specs.Option.{option_map, option_and_then}
+use Rattle.std.specs.Option.{option_and_then}
 use Rattle.std.specs.Result.{result_ok}
 use Rattle.sub_types.specs.Kind.{IsKind}
 use Rattle.sub_types.specs.Value.{Fits}
 use Rattle.sub_types.specs.declared.kind.Ty.{Ty}
 use Rattle.sub_types.specs.declared.value.Value.{Value}
 use Rattle.arrow_meta.specs.declared.field.FieldMeta.{FieldMeta}
-use Rattle.arrow_meta.specs.declared.field.Shape.{Shape}
 use Rattle.arrow_meta.specs.declared.field.Shape.TheVariants.{Known, Skip}
-use Rattle.arrow_meta.specs.declared.meta.Block.{Block}
-use Rattle.arrow_meta.specs.declared.meta.RecordMeta.{RecordMeta}
 use Rattle.arrow_meta.specs.Optional.{◌>>=◌, all_of}
 use Rattle.arrow_meta.specs.Batch.{Wanted, buffers_of, rows_in}
 use Rattle.arrow_meta.specs.Dictionary.{ColumnDictionary}

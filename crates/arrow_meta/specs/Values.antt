@@ -1,5 +1,5 @@
 -- The values that the buffers of a column hold (Arrow columnar format, "Physical Memory Layout").
-use Rattle.std.specs.Prelude.{ℕ, suc, ◌+◌, ◌-◌, ◌*◌, ◌^◌, ◌<◌, ℤ, pos, List, [], ◌∷◌, length, map, take, drop, replicate, Bool, true, false, Option, Some, None, ◌&&◌, nat_le, nat_lt, unsigned_abs, slice_get, slice_index, if◌then◌else◌, ◌==◌}
+use Rattle.std.specs.Prelude.{ℕ, ◌+◌, ◌*◌, ◌^◌, ℤ, pos, List, [], ◌∷◌, length, map, drop, replicate, Bool, true, false, Option, Some, None, ◌&&◌, nat_le, nat_lt, unsigned_abs, slice_get, slice_index, if◌then◌else◌, ◌==◌}
 use Rattle.std.specs.List.{range_with_len, slice_range, list_all}
 use Rattle.std.specs.Option.{option_map, option_map_or}
 use Rattle.std.specs.Int.{Width, w8, w16, w32, w64, w128, cast_signed}

@@ -1,12 +1,10 @@
-use Rattle.std.proofs.Common.{rules, ◌≡◌, ◌∙◌, ◌+◌, ◌<◌, ◌++◌, ◌∷◌, [], Ok, Some, Option, IfSome, ap, sym, subst, arith}
+use Rattle.std.proofs.Common.{◌∙◌, ◌<◌, Option, IfSome, sym, subst, arith}
 use Rattle.std.proofs.lemmas.List.Elements.{All-push}
 use Rattle.arrow_meta.specs.declared.field.Shape.{Shape}
 use Rattle.arrow_meta.specs.Known.{IsShape}
 use Rattle.arrow_meta.specs.declared.field.FieldMeta.{FieldMeta}
-use Rattle.arrow_meta.specs.Looked.{◌>>=◌}
-use Rattle.arrow_meta.specs.Footer.{Field, field_at, columns_from}
-use Rattle.arrow_meta.specs.Seen.{columns_of, items_of}
-use Rattle.arrow_meta.proofs.CollectLaws.{rest_of, prefixed, rest_of-tail_ok, next_column, column_of}
+use Rattle.arrow_meta.specs.Footer.{Field, field_at}
+use Rattle.arrow_meta.proofs.CollectLaws.{rest_of-tail_ok, next_column}
 use Rattle.arrow_meta.proofs.footer_reading.vector_columns.Goals as goal
 
 pub loop-i-preserved : goal.loop-i-preserved

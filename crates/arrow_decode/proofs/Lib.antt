@@ -1,0 +1,7 @@
+pub mod BufferLaws
+pub mod NumberLaws
+pub mod ListLaws
+pub mod TextLaws
+pub mod IndexLaws
+pub mod InKindLaws
+pub mod LengthLaws

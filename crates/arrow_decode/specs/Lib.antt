@@ -1,0 +1,6 @@
+pub mod Offsets
+pub mod Indices
+pub mod Dictionary
+pub mod RawColumn
+pub mod Seen
+pub mod Buffers
