@@ -6,3 +6,6 @@ pub mod Validity
 pub mod Numbers
 pub mod Texts
 pub mod ColumnBack
+pub mod BodyBack
+pub mod RowsBack
+pub mod BatchBack
