@@ -9,3 +9,4 @@ pub mod ColumnBack
 pub mod BodyBack
 pub mod RowsBack
 pub mod BatchBack
+pub mod Ends
