@@ -10,3 +10,4 @@ pub mod BodyBack
 pub mod RowsBack
 pub mod BatchBack
 pub mod Ends
+pub mod Sizes
