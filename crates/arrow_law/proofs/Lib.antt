@@ -11,3 +11,5 @@ pub mod RowsBack
 pub mod BatchBack
 pub mod Ends
 pub mod Sizes
+pub mod BlocksBack
+pub mod HeadBack
