@@ -1,5 +1,5 @@
 -- The rows of a batch are read back from its metadata and its body.
-use Rattle.std.proofs.Common.{◌≡◌, ◌∙◌, ℕ, zero, suc, ◌+◌, ◌^◌, ◌<◌, ◌≤◌, ◌==◌, ℤ, pos, List, [], ◌∷◌, ◌++◌, Bool, true, false, Option, Some, None, length, get_or, map, take, drop, refl, sym, ap, subst, arith, append_assoc, length-append, nat_lt, ◌&&◌, append-nil}
+use Rattle.std.proofs.Common.{◌≡◌, ◌∙◌, ℕ, suc, ◌+◌, ◌^◌, ◌≤◌, ◌==◌, ℤ, pos, List, [], ◌∷◌, ◌++◌, true, Some, None, length, get_or, map, take, drop, refl, sym, ap, arith, append_assoc, length-append, nat_lt, append-nil}
 use Rattle.std.specs.List.{All, sum, slice_get, slice_index}
 use Rattle.std.specs.Ordering.{int_eq}
 use Rattle.std.proofs.lemmas.Bool.{le-leb}
@@ -8,18 +8,17 @@ use Rattle.std.proofs.lemmas.List.{length-map, map-append, take_at, drop_at, get
 use Rattle.std.proofs.lemmas.List.Sums.{sum_by-cons, sum_by_push}
 use Rattle.std.proofs.lemmas.List.Elements.{All-head, All-tail}
 use Rattle.sub_types.specs.Kind.{IsKind}
-use Rattle.sub_types.specs.Value.{Fits, FitsTy}
-use Rattle.sub_types.specs.Rows.{transpose}
+use Rattle.sub_types.specs.Value.{Fits}
 use Rattle.sub_types.specs.declared.kind.Kind.{Kind}
 use Rattle.sub_types.specs.declared.kind.Kind.TheVariants as kinds
 use Rattle.sub_types.specs.declared.kind.Ty.{Ty}
 use Rattle.sub_types.specs.declared.value.Value.{Value}
-use Rattle.sub_types.specs.declared.value.Value.TheVariants as values
 use Rattle.arrow_meta.specs.declared.field.Layout.TheVariants.{Plain}
 use Rattle.arrow_meta.specs.declared.meta.RecordMeta.{RecordMeta}
-use Rattle.arrow_meta.specs.Buffers.{first_value, other_values, column_buffers as written_buffers, value_buffers, batch_buffers, batch_nodes, null_count, body_of, buffer_places}
-use Rattle.arrow_meta.specs.Optional.{◌>>=◌, when, all_of}
-use Rattle.arrow_meta.specs.Batch.{Wanted, known_buffers, count_in, buffer_in, is_counted, column_buffers, buffer_values, column_in, columns_in, rows_in}
+use Rattle.arrow_meta.specs.Buffers.{first_value, other_values, column_buffers as written_buffers, batch_buffers, batch_nodes, null_count, body_of, buffer_places}
+use Rattle.arrow_meta.specs.Optional.{all_of}
+use Rattle.arrow_meta.specs.Batch.{Wanted, known_buffers, count_in, buffer_in, column_buffers, buffer_values, column_in, columns_in, rows_in}
+use Rattle.arrow_law.proofs.Options.{slice_get_at}
 use Rattle.arrow_law.proofs.BodyBack.{signed_pair, buffers_back, buffer_places-append, length-buffer_places, body_of-append}
 use Rattle.arrow_law.proofs.ColumnBack.{column_back}
 use Rattle.arrow_law.proofs.RowsBack.{columns_of_rows, first_column_fits, other_columns_fit, transpose_back}
@@ -57,13 +56,6 @@ length-batch_buffers (ty ∷ types) rows =
 pub length-batch_nodes : (types : List Ty) (rows : List (List Value)) → length (batch_nodes types rows) ≡ length types
 length-batch_nodes [] rows = refl
 length-batch_nodes (ty ∷ types) rows = ap (λ n. suc n) (length-batch_nodes types (map other_values rows))
-
--- an element behind others
-slice_get_at : {A : Type 0} (front : List A) (x : A) (back : List A) (i : ℕ) → length front ≡ i → slice_get (front ++ x ∷ back) i ≡ Some x
-slice_get_at [] x back zero long = refl
-slice_get_at [] x back (suc i) long = absurd (omega arith)
-slice_get_at (y ∷ front) x back zero long = absurd (omega arith)
-slice_get_at (y ∷ front) x back (suc i) long = slice_get_at front x back i (omega arith)
 
 -- Where the columns of types stand in the metadata and the body of a batch: the column at i is the first of them, behind others.
 pub record StandsAt (types : List Ty) (rows : List (List Value)) (shapes : List ℕ) (meta : RecordMeta) (body : List ℕ) (i : ℕ) : Type 0 where
@@ -185,9 +177,18 @@ unfolding rows_in columns_in
 rows_back types rows are fits few =
     let body : List ℕ = body_of (batch_buffers types rows) in
     let stands : StandsAt types rows (buffer_counts types) (meta_of types rows) body 0 = record {
-      shapes_front = []; nodes_front = []; buffers_front = []; before = []; after = [];
-      shapes_are = refl; nodes_are = refl; buffers_are = refl; body_is = sym (append-nil body);
-      shapes_long = refl; nodes_long = refl; buffers_long = refl;
+      shapes_front = [];
+      nodes_front = [];
+      buffers_front = [];
+      before = [];
+      after = [];
+      shapes_are = refl;
+      nodes_are = refl;
+      buffers_are = refl;
+      body_is = sym (append-nil body);
+      shapes_long = refl;
+      nodes_long = refl;
+      buffers_long = refl;
     } in
     let columns = columns_back types rows (buffer_counts types) (meta_of types rows) body 0 (length rows) are fits refl few stands in
     rw (counted_back types rows few, columns) (ap (λ xs. Some xs) (transpose_back types rows fits))

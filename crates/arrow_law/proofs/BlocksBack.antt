@@ -1,12 +1,12 @@
 -- The blocks of a file lie where its messages stand, and say what was written.
-use Rattle.std.proofs.Common.{◌≡◌, ◌∙◌, ℕ, zero, suc, ◌+◌, ◌-◌, ◌^◌, ◌<◌, ◌≤◌, ℤ, pos, List, [], ◌∷◌, ◌++◌, Bool, true, false, Option, Some, None, Ok, length, get_or, map, refl, sym, ap, subst, arith, append_assoc, length-append, nat_le, ◌&&◌, FitsSigned, if◌then◌else◌}
+use Rattle.std.proofs.Common.{◌≡◌, ◌∙◌, ℕ, zero, suc, ◌+◌, ◌^◌, ◌<◌, ◌≤◌, pos, List, [], ◌∷◌, ◌++◌, Bool, true, false, Some, Ok, length, get_or, map, refl, sym, ap, subst, arith, append_assoc, length-append, nat_le, FitsSigned, if◌then◌else◌}
 use Rattle.std.proofs.lemmas.List.Sums.{sum_by-le}
 use Rattle.std.specs.List.{flat_map, All}
-use Rattle.std.specs.Int.{w32, w64, cast_unsigned}
+use Rattle.std.specs.Int.{w32, w64}
 use Rattle.std.proofs.lemmas.Bool.{le-leb}
 use Rattle.std.proofs.lemmas.Int.{fits_signed_from_abs}
-use Rattle.std.proofs.lemmas.List.{length-map, get_or-map}
-use Rattle.std.proofs.lemmas.List.Elements.{All-head, All-tail, All-cons, All-nil, All-map}
+use Rattle.std.proofs.lemmas.List.{length-map}
+use Rattle.std.proofs.lemmas.List.Elements.{All-cons, All-nil}
 use Rattle.fb_bytes.specs.Layout.{buffer_of, filled}
 use Rattle.fb_bytes.proofs.TableLemmas.{round_up-least, length-filled}
 use Rattle.fb_bytes.proofs.LawProofs.{near_laws, root_law, table_law, tables_law, structs_law, text_law, item_law, absence_law}
@@ -18,10 +18,9 @@ use Rattle.arrow_meta.specs.Buffers.{first_value, other_values, batch_buffers, b
 use Rattle.arrow_meta.specs.Messages.{Place, record_message}
 use Rattle.arrow_meta.specs.Meta.{unsigned_pair, record_of, place_of}
 use Rattle.arrow_meta.specs.File.{framed, batch_metadata, batch_body, batch_message, blocks_from}
-use Rattle.arrow_meta.specs.Optional.{◌>>=◌, when, natural}
 use Rattle.arrow_meta.specs.Places.{place_in, metadata_in, body_in}
 use Rattle.arrow_meta.specs.Message.{record_in}
-use Rattle.arrow_meta.specs.Head.{read_at, block_metadata, record_at, place_body, block_body}
+use Rattle.arrow_meta.specs.Head.{record_at, block_body}
 use Rattle.arrow_meta.specs.Written.{IsPair, IsMeta, IsBlock}
 use Rattle.arrow_meta.proofs.MessageBack.{Laws, record_back}
 use Rattle.arrow_law.proofs.BodyBack.{signed_pair}

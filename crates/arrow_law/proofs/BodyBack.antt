@@ -1,12 +1,11 @@
 -- The buffers of a batch are found in its body.
-use Rattle.std.proofs.Common.{◌≡◌, ◌∙◌, ℕ, zero, suc, ◌+◌, ◌-◌, ◌<◌, ◌≤◌, ℤ, pos, List, [], ◌∷◌, ◌++◌, true, Option, Some, length, map, take, drop, replicate, refl, sym, ap, arith, append_assoc, length-append, nat_le, add-zero}
-use Rattle.std.specs.List.{flat_map, slice_range}
+use Rattle.std.proofs.Common.{◌≡◌, ◌∙◌, ℕ, suc, ◌+◌, ◌-◌, ℤ, pos, List, [], ◌∷◌, ◌++◌, true, Some, length, map, replicate, refl, sym, ap, arith, append_assoc, length-append, nat_le, add-zero}
 use Rattle.std.proofs.lemmas.Bool.{le-leb}
 use Rattle.std.proofs.lemmas.List.{take_at, drop_at}
 use Rattle.std.proofs.lemmas.List.Concat.{flat_map-append}
 use Rattle.fb_bytes.specs.Layout.{filled, round_up}
 use Rattle.arrow_meta.specs.Buffers.{body_of, buffer_places}
-use Rattle.arrow_meta.specs.Optional.{when, all_of}
+use Rattle.arrow_meta.specs.Optional.{all_of}
 use Rattle.arrow_meta.specs.Batch.{buffer_in}
 
 -- two numbers as signed ones

@@ -1,8 +1,8 @@
 -- The values of a column are read back from its buffers.
-use Rattle.std.proofs.Common.{◌≡◌, ◌∙◌, ℕ, zero, suc, ◌+◌, ◌*◌, ◌^◌, ◌<◌, ◌≤◌, List, [], ◌∷◌, ◌++◌, Bool, true, false, Option, Some, None, length, get_or, map, refl, sym, ap, subst, arith}
+use Rattle.std.proofs.Common.{◌≡◌, ◌∙◌, ℕ, ◌*◌, ◌^◌, ◌<◌, ◌≤◌, List, [], ◌∷◌, Some, None, length, map, refl, sym, ap, arith}
 use Rattle.std.specs.List.{flat_map, All}
 use Rattle.std.specs.Option.{option_map}
-use Rattle.std.specs.Int.{Width, w8, w16, w32, w64, cast_unsigned}
+use Rattle.std.specs.Int.{w8, w16, w32, w64, cast_unsigned}
 use Rattle.std.proofs.lemmas.List.{length-map, length-append}
 use Rattle.std.proofs.lemmas.List.Elements.{All-head, All-tail, All-weaker}
 use Rattle.std.proofs.Math.Facts.{Fits-of_z, Fits-lt-pow}
@@ -17,10 +17,9 @@ use Rattle.sub_types.specs.declared.kind.Ty.{Ty}
 use Rattle.sub_types.specs.declared.value.Value.{Value}
 use Rattle.sub_types.specs.declared.value.Value.TheVariants as values
 use Rattle.arrow_meta.specs.declared.field.Layout.TheVariants.{Plain}
-use Rattle.arrow_meta.specs.Buffers.{is_valid, is_truth, text_bytes, slot_bytes, packed, validity_buffer, value_buffers, column_buffers}
-use Rattle.arrow_meta.specs.Optional.{◌>>=◌}
-use Rattle.arrow_meta.specs.Values.{validity_in, values_in, bits_in}
-use Rattle.arrow_meta.specs.Batch.{Wanted, buffer_values}
+use Rattle.arrow_meta.specs.Buffers.{is_valid, is_truth, text_bytes, slot_bytes, packed, value_buffers, column_buffers}
+use Rattle.arrow_meta.specs.Values.{values_in, bits_in}
+use Rattle.arrow_meta.specs.Batch.{buffer_values}
 use Rattle.arrow_law.proofs.Validity.{bits_in_back, validity_back}
 use Rattle.arrow_law.proofs.Numbers.{IsInt, IsDec, ints_back, decimals_back, int_of}
 use Rattle.arrow_law.proofs.Texts.{IsBytes, IsText, binaries_back, texts_back}
@@ -35,9 +34,7 @@ truths_values : (column : List Value) → All IsBool column → map bool_value (
 truths_values [] each = refl
 truths_values (values.Null ∷ column) each = ap (λ rest. values.Null ∷ rest) (truths_values column (All-tail IsBool values.Null column each))
 truths_values (values.Bool b ∷ column) each = ap (λ rest. values.Bool b ∷ rest) (truths_values column (All-tail IsBool (values.Bool b) column each))
-truths_values (values.Int n ∷ column) each = absurd (All-head IsBool (values.Int n) column each)
-truths_values (values.Dec n ∷ column) each = absurd (All-head IsBool (values.Dec n) column each)
-truths_values (values.Bytes bytes ∷ column) each = absurd (All-head IsBool (values.Bytes bytes) column each)
+truths_values (value ∷ column) each = absurd (All-head IsBool value column each)
 
 truths_back : (column : List Value) → All IsBool column
     → option_map (λ truths. map bool_value (optional truths (map is_valid column))) (bits_in (length column) (packed (map is_truth column))) ≡ Some column
@@ -65,114 +62,82 @@ texts_length (value ∷ column) short =
 bool_kind : (value : Value) → InKind kinds.Bool value → IsBool value
 bool_kind values.Null is = tt
 bool_kind (values.Bool b) is = tt
-bool_kind (values.Int n) is = absurd is
-bool_kind (values.Dec n) is = absurd is
-bool_kind (values.Bytes bytes) is = absurd is
+bool_kind value is = absurd is
 
 text_kind : (value : Value) → InKind kinds.Text value → IsText value
 text_kind values.Null is = tt
 text_kind (values.Bytes bytes) is = is
-text_kind (values.Bool b) is = absurd is
-text_kind (values.Int n) is = absurd is
-text_kind (values.Dec n) is = absurd is
+text_kind value is = absurd is
 
 binary_kind : (value : Value) → InKind kinds.Binary value → IsBytes value
 binary_kind values.Null is = tt
 binary_kind (values.Bytes bytes) is = tt
-binary_kind (values.Bool b) is = absurd is
-binary_kind (values.Int n) is = absurd is
-binary_kind (values.Dec n) is = absurd is
+binary_kind value is = absurd is
 
 decimal_kind : (precision scale : ℕ) (value : Value) → InKind (kinds.Decimal precision scale) value → IsDec precision value
 decimal_kind precision scale values.Null is = tt
 decimal_kind precision scale (values.Dec n) is = is
-decimal_kind precision scale (values.Bool b) is = absurd is
-decimal_kind precision scale (values.Int n) is = absurd is
-decimal_kind precision scale (values.Bytes bytes) is = absurd is
+decimal_kind precision scale value is = absurd is
 
 i8_kind : (value : Value) → InKind kinds.I8 value → IsInt w8 value
 i8_kind values.Null is = tt
 i8_kind (values.Int n) is = is
-i8_kind (values.Bool b) is = absurd is
-i8_kind (values.Dec n) is = absurd is
-i8_kind (values.Bytes bytes) is = absurd is
+i8_kind value is = absurd is
 
 i8_slot : (value : Value) → IsInt w8 value → slot_bytes kinds.I8 value ≡ little_bytes 1 (cast_unsigned w8 (int_of value))
 i8_slot values.Null is = refl
 i8_slot (values.Int n) is = refl
-i8_slot (values.Bool b) is = absurd is
-i8_slot (values.Dec n) is = absurd is
-i8_slot (values.Bytes bytes) is = absurd is
+i8_slot value is = absurd is
 
 i16_kind : (value : Value) → InKind kinds.I16 value → IsInt w16 value
 i16_kind values.Null is = tt
 i16_kind (values.Int n) is = is
-i16_kind (values.Bool b) is = absurd is
-i16_kind (values.Dec n) is = absurd is
-i16_kind (values.Bytes bytes) is = absurd is
+i16_kind value is = absurd is
 
 i16_slot : (value : Value) → IsInt w16 value → slot_bytes kinds.I16 value ≡ little_bytes 2 (cast_unsigned w16 (int_of value))
 i16_slot values.Null is = refl
 i16_slot (values.Int n) is = refl
-i16_slot (values.Bool b) is = absurd is
-i16_slot (values.Dec n) is = absurd is
-i16_slot (values.Bytes bytes) is = absurd is
+i16_slot value is = absurd is
 
 i32_kind : (value : Value) → InKind kinds.I32 value → IsInt w32 value
 i32_kind values.Null is = tt
 i32_kind (values.Int n) is = is
-i32_kind (values.Bool b) is = absurd is
-i32_kind (values.Dec n) is = absurd is
-i32_kind (values.Bytes bytes) is = absurd is
+i32_kind value is = absurd is
 
 i32_slot : (value : Value) → IsInt w32 value → slot_bytes kinds.I32 value ≡ little_bytes 4 (cast_unsigned w32 (int_of value))
 i32_slot values.Null is = refl
 i32_slot (values.Int n) is = refl
-i32_slot (values.Bool b) is = absurd is
-i32_slot (values.Dec n) is = absurd is
-i32_slot (values.Bytes bytes) is = absurd is
+i32_slot value is = absurd is
 
 i64_kind : (value : Value) → InKind kinds.I64 value → IsInt w64 value
 i64_kind values.Null is = tt
 i64_kind (values.Int n) is = is
-i64_kind (values.Bool b) is = absurd is
-i64_kind (values.Dec n) is = absurd is
-i64_kind (values.Bytes bytes) is = absurd is
+i64_kind value is = absurd is
 
 i64_slot : (value : Value) → IsInt w64 value → slot_bytes kinds.I64 value ≡ little_bytes 8 (cast_unsigned w64 (int_of value))
 i64_slot values.Null is = refl
 i64_slot (values.Int n) is = refl
-i64_slot (values.Bool b) is = absurd is
-i64_slot (values.Dec n) is = absurd is
-i64_slot (values.Bytes bytes) is = absurd is
+i64_slot value is = absurd is
 
 date_kind : (value : Value) → InKind kinds.Date value → IsInt w32 value
 date_kind values.Null is = tt
 date_kind (values.Int n) is = is
-date_kind (values.Bool b) is = absurd is
-date_kind (values.Dec n) is = absurd is
-date_kind (values.Bytes bytes) is = absurd is
+date_kind value is = absurd is
 
 date_slot : (value : Value) → IsInt w32 value → slot_bytes kinds.Date value ≡ little_bytes 4 (cast_unsigned w32 (int_of value))
 date_slot values.Null is = refl
 date_slot (values.Int n) is = refl
-date_slot (values.Bool b) is = absurd is
-date_slot (values.Dec n) is = absurd is
-date_slot (values.Bytes bytes) is = absurd is
+date_slot value is = absurd is
 
 timestamp_kind : (value : Value) → InKind kinds.Timestamp value → IsInt w64 value
 timestamp_kind values.Null is = tt
 timestamp_kind (values.Int n) is = is
-timestamp_kind (values.Bool b) is = absurd is
-timestamp_kind (values.Dec n) is = absurd is
-timestamp_kind (values.Bytes bytes) is = absurd is
+timestamp_kind value is = absurd is
 
 timestamp_slot : (value : Value) → IsInt w64 value → slot_bytes kinds.Timestamp value ≡ little_bytes 8 (cast_unsigned w64 (int_of value))
 timestamp_slot values.Null is = refl
 timestamp_slot (values.Int n) is = refl
-timestamp_slot (values.Bool b) is = absurd is
-timestamp_slot (values.Dec n) is = absurd is
-timestamp_slot (values.Bytes bytes) is = absurd is
+timestamp_slot value is = absurd is
 
 -- the values of a column of a kind
 values_back : (kind : Kind) (column : List Value) → IsKind kind → All (InKind kind) column → length (flat_map text_bytes column) < 2 ^ 31

@@ -1,7 +1,6 @@
 -- The ends of a file: its magics, and its footer with the size.
-use Rattle.std.proofs.Common.{◌≡◌, ◌∙◌, ℕ, zero, suc, ◌+◌, ◌-◌, ◌^◌, ◌<◌, ◌≤◌, ℤ, pos, List, [], ◌∷◌, ◌++◌, Bool, true, false, Option, Some, None, Ok, length, take, drop, replicate, refl, sym, ap, arith, append_assoc, length-append, nat_le, ◌&&◌, not}
+use Rattle.std.proofs.Common.{◌≡◌, ◌∙◌, ℕ, ◌+◌, ◌-◌, ◌^◌, ◌<◌, ◌≤◌, pos, List, ◌++◌, true, Some, Ok, length, take, drop, replicate, refl, sym, ap, arith, append_assoc, length-append, nat_le}
 use Rattle.std.specs.List.{slice_range}
-use Rattle.std.specs.Option.{ok_or}
 use Rattle.std.specs.Int.{w32, cast_signed}
 use Rattle.std.specs.Str.{bytes_eq}
 use Rattle.std.proofs.lemmas.Bool.{le-leb}
@@ -12,9 +11,8 @@ use Rattle.byteorder.specs.Endian.{little_number, little_bytes}
 use Rattle.byteorder.specs.Numbers.{little_number-reads_back, length-bytes_low_first}
 use Rattle.arrow_meta.specs.File.{magic, framed}
 use Rattle.arrow_meta.specs.Messages.{Place}
-use Rattle.arrow_meta.specs.Optional.{◌>>=◌, when, natural}
-use Rattle.arrow_meta.specs.Places.{signed_at, is_arrow, footer_size, metadata_in, body_in}
-use Rattle.arrow_meta.specs.Head.{footer_place, unless}
+use Rattle.arrow_meta.specs.Places.{signed_at, footer_size, metadata_in, body_in}
+use Rattle.arrow_meta.specs.Head.{footer_place}
 
 -- bytes are the same as themselves
 same_bytes : (xs ys : List ℕ) → xs ≡ ys → bytes_eq xs ys ≡ true

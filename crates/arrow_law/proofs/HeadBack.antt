@@ -1,16 +1,16 @@
 -- What is read of a footer's columns, all of which are wanted.
-use Rattle.std.proofs.Common.{◌≡◌, ◌∙◌, ℕ, zero, suc, ◌+◌, ◌<◌, ◌≤◌, List, [], ◌∷◌, ◌++◌, Bool, true, false, Option, Some, None, length, get_or, map, refl, sym, ap, arith, append_assoc, length-append, ◌||◌, add-one}
-use Rattle.std.specs.List.{range_with_len, filter_map, list_any, slice_get, All, cons_option}
+use Rattle.std.proofs.Common.{◌≡◌, ◌∙◌, ℕ, suc, ◌+◌, List, [], ◌∷◌, ◌++◌, Bool, false, Option, Some, None, length, map, refl, sym, ap, arith, append_assoc, length-append, add-one}
+use Rattle.std.specs.List.{range_with_len, filter_map, list_any, slice_get, All}
 use Rattle.std.proofs.lemmas.List.Elements.{All-head, All-tail}
 use Rattle.sub_types.specs.declared.kind.Ty.{Ty}
 use Rattle.arrow_meta.specs.declared.field.FieldMeta.{FieldMeta}
 use Rattle.arrow_meta.specs.declared.field.Layout.TheVariants.{Plain}
-use Rattle.arrow_meta.specs.declared.field.Shape.TheVariants.{Known, Skip}
-use Rattle.arrow_meta.specs.Optional.{◌>>=◌, all_of}
+use Rattle.arrow_meta.specs.Optional.{all_of}
 use Rattle.arrow_meta.specs.Batch.{Wanted, known_buffers}
 use Rattle.arrow_meta.specs.Dictionary.{DictionaryBlock, dictionaries_from}
 use Rattle.arrow_meta.specs.Written.{column_of, columns_of}
 use Rattle.arrow_meta.specs.Table.{shapes_of, wanted_as, type_of}
+use Rattle.arrow_law.proofs.Options.{slice_get_at}
 use Rattle.arrow_law.proofs.BatchBack.{buffer_counts, wanted_from}
 
 pub length-columns_of : (names : List (List ℕ)) (types : List Ty) → length names ≡ length types → length (columns_of names types) ≡ length types
@@ -43,13 +43,6 @@ no_dictionaries blocks i [] types = refl
 no_dictionaries blocks i (name ∷ names) [] = refl
 no_dictionaries blocks i (name ∷ names) (ty ∷ types) = no_dictionaries blocks (suc i) names types
 
--- an element behind others
-element_at : {A : Type 0} (front : List A) (x : A) (back : List A) (i : ℕ) → length front ≡ i → slice_get (front ++ x ∷ back) i ≡ Some x
-element_at [] x back zero long = refl
-element_at [] x back (suc i) long = absurd (omega arith)
-element_at (y ∷ front) x back zero long = absurd (omega arith)
-element_at (y ∷ front) x back (suc i) long = element_at front x back i (omega arith)
-
 -- all columns are wanted
 pub wanted_back : (front : List FieldMeta) (names : List (List ℕ)) (types : List Ty) (all : List FieldMeta) (i : ℕ) → length names ≡ length types
     → length front ≡ i → all ≡ front ++ columns_of names types
@@ -60,7 +53,7 @@ wanted_back front (name ∷ names) [] all i same long are = absurd (omega arith)
 wanted_back front (name ∷ names) (ty ∷ types) all i same long are =
     let field : FieldMeta = column_of name ty in
     let wanted : Wanted = record { column = i; kind = ty.kind; layout = Plain; dictionary = None } in
-    let here : slice_get all i ≡ Some field = ap (λ xs. slice_get xs i) are ∙ element_at front field (columns_of names types) i long in
+    let here : slice_get all i ≡ Some field = ap (λ xs. slice_get xs i) are ∙ slice_get_at front field (columns_of names types) i long in
     let longer : length (front ++ field ∷ []) ≡ i + 1 = length-append front (field ∷ []) ∙ omega (arith, long) in
     let others = wanted_back (front ++ field ∷ []) names types all (i + 1) (omega arith) longer (are ∙ sym (append_assoc front (field ∷ []) (columns_of names types))) in
     rw here (ap (λ rest. wanted ∷ rest) (others ∙ ap (λ n. wanted_from n types) (add-one i)))

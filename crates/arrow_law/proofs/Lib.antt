@@ -13,3 +13,4 @@ pub mod Ends
 pub mod Sizes
 pub mod BlocksBack
 pub mod HeadBack
+pub mod Law

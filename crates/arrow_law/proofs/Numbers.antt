@@ -1,8 +1,8 @@
 -- The values of a column of fixed width from its numbers.
-use Rattle.std.proofs.Common.{◌≡◌, ◌∙◌, ℕ, zero, suc, ◌+◌, ◌*◌, ◌^◌, ◌<◌, ◌≤◌, ℤ, pos, negsuc, List, [], ◌∷◌, ◌++◌, Bool, true, false, Option, Some, None, length, get_or, map, refl, sym, ap, subst, arith, lit<, FitsSigned, unsigned_abs, nat_lt}
-use Rattle.std.specs.List.{range_with_len, flat_map, list_all, All}
+use Rattle.std.proofs.Common.{◌≡◌, ◌∙◌, ℕ, suc, ◌^◌, ◌<◌, ◌≤◌, ℤ, pos, List, [], ◌∷◌, ◌++◌, true, Some, length, get_or, map, refl, sym, ap, subst, arith, lit<, FitsSigned, unsigned_abs, nat_lt}
+use Rattle.std.specs.List.{flat_map, list_all, All}
 use Rattle.std.specs.Option.{option_map}
-use Rattle.std.specs.Int.{Width, w8, w16, w32, w64, w128, cast_signed, cast_unsigned}
+use Rattle.std.specs.Int.{Width, w128, cast_signed, cast_unsigned}
 use Rattle.std.proofs.lemmas.List.{length-map, get_or-map}
 use Rattle.std.proofs.lemmas.List.Elements.{All-head, All-tail, All-weaker}
 use Rattle.std.proofs.lemmas.Int.{to_z-of_z, fits_signed_from_abs}
@@ -12,16 +12,12 @@ use Rattle.std.proofs.lemmas.Nat.{pow_pos}
 use Rattle.std.proofs.lemmas.Bool.{le-leb}
 use Rattle.arrow_meta.proofs.BackLaws.{flat_map-map}
 use Rattle.byteorder.specs.Endian.{little_bytes}
-use Rattle.sub_types.specs.Kind.{IsDecimal}
-use Rattle.sub_types.specs.Value.{InKind}
-use Rattle.sub_types.specs.Nullable.{bool_value, int_value, dec_value, bytes_value}
+use Rattle.sub_types.specs.Nullable.{int_value, dec_value}
 use Rattle.sub_types.specs.Optional.{optional}
-use Rattle.sub_types.specs.declared.kind.Kind.{Kind}
 use Rattle.sub_types.specs.declared.kind.Kind.TheVariants as kinds
 use Rattle.sub_types.specs.declared.value.Value.{Value}
 use Rattle.sub_types.specs.declared.value.Value.TheVariants as values
-use Rattle.arrow_meta.specs.Buffers.{is_valid, is_truth, slot_bytes, text_bytes}
-use Rattle.arrow_meta.specs.Optional.{when}
+use Rattle.arrow_meta.specs.Buffers.{is_valid, slot_bytes}
 use Rattle.arrow_meta.specs.Values.{unsigned_in, signed_in, ints_in, has_digits, decimals_in}
 use Rattle.arrow_law.proofs.Slots.{unsigned_back}
 
@@ -40,9 +36,7 @@ int_of _ = pos 0
 pub int_fits : (width : Width) (value : Value) → IsInt width value → FitsSigned width (int_of value)
 int_fits width values.Null is = fits_signed_from_abs width (pos 0) (pow_pos _)
 int_fits width (values.Int n) is = is
-int_fits width (values.Bool b) is = absurd is
-int_fits width (values.Dec n) is = absurd is
-int_fits width (values.Bytes bytes) is = absurd is
+int_fits width value is = absurd is
 
 -- one list for the other, each part of which is the same
 pub flat_map-same : {A B : Type 0} (f g : A → List B) (xs : List A) → All (λ x. f x ≡ g x) xs → flat_map f xs ≡ flat_map g xs
@@ -88,9 +82,7 @@ ints_values : (width : Width) (column : List Value) → All (IsInt width) column
 ints_values width [] each = refl
 ints_values width (values.Null ∷ column) each = ap (λ rest. values.Null ∷ rest) (ints_values width column (All-tail (IsInt width) values.Null column each))
 ints_values width (values.Int n ∷ column) each = ap (λ rest. values.Int n ∷ rest) (ints_values width column (All-tail (IsInt width) (values.Int n) column each))
-ints_values width (values.Bool b ∷ column) each = absurd (All-head (IsInt width) (values.Bool b) column each)
-ints_values width (values.Dec n ∷ column) each = absurd (All-head (IsInt width) (values.Dec n) column each)
-ints_values width (values.Bytes bytes ∷ column) each = absurd (All-head (IsInt width) (values.Bytes bytes) column each)
+ints_values width (value ∷ column) each = absurd (All-head (IsInt width) value column each)
 
 -- whole numbers are read back
 pub ints_back : (width : Width) (size : ℕ) (slot : Value → List ℕ) (column : List Value) → HoldsWidth width size → All (IsInt width) column
@@ -121,9 +113,7 @@ decs_values : (precision : ℕ) (column : List Value) → All (IsDec precision) 
 decs_values precision [] each = refl
 decs_values precision (values.Null ∷ column) each = ap (λ rest. values.Null ∷ rest) (decs_values precision column (All-tail (IsDec precision) values.Null column each))
 decs_values precision (values.Dec n ∷ column) each = ap (λ rest. values.Dec n ∷ rest) (decs_values precision column (All-tail (IsDec precision) (values.Dec n) column each))
-decs_values precision (values.Bool b ∷ column) each = absurd (All-head (IsDec precision) (values.Bool b) column each)
-decs_values precision (values.Int n ∷ column) each = absurd (All-head (IsDec precision) (values.Int n) column each)
-decs_values precision (values.Bytes bytes ∷ column) each = absurd (All-head (IsDec precision) (values.Bytes bytes) column each)
+decs_values precision (value ∷ column) each = absurd (All-head (IsDec precision) value column each)
 
 digits_pass : (precision : ℕ) (column : List Value) → All (IsDec precision) column → list_all (has_digits precision) (optional (map int_of column) (map is_valid column)) ≡ true
 digits_pass precision [] each = refl
@@ -132,16 +122,12 @@ digits_pass precision (values.Dec n ∷ column) each =
     let low = All-head (IsDec precision) (values.Dec n) column each in
     let here : nat_lt (unsigned_abs n) (10 ^ precision) ≡ true = le-leb (suc (unsigned_abs n)) (10 ^ precision) low in
     rw here (digits_pass precision column (All-tail (IsDec precision) (values.Dec n) column each))
-digits_pass precision (values.Bool b ∷ column) each = absurd (All-head (IsDec precision) (values.Bool b) column each)
-digits_pass precision (values.Int n ∷ column) each = absurd (All-head (IsDec precision) (values.Int n) column each)
-digits_pass precision (values.Bytes bytes ∷ column) each = absurd (All-head (IsDec precision) (values.Bytes bytes) column each)
+digits_pass precision (value ∷ column) each = absurd (All-head (IsDec precision) value column each)
 
 dec_slot : (precision scale : ℕ) (value : Value) → IsDec precision value → slot_bytes (kinds.Decimal precision scale) value ≡ little_bytes 16 (cast_unsigned w128 (int_of value))
 dec_slot precision scale values.Null is = refl
 dec_slot precision scale (values.Dec n) is = refl
-dec_slot precision scale (values.Bool b) is = absurd is
-dec_slot precision scale (values.Int n) is = absurd is
-dec_slot precision scale (values.Bytes bytes) is = absurd is
+dec_slot precision scale value is = absurd is
 
 -- decimals are read back
 pub decimals_back : (precision scale : ℕ) (column : List Value) → precision ≤ 38 → All (IsDec precision) column

@@ -1,8 +1,8 @@
 -- The columns of rows, and rows of columns.
-use Rattle.std.proofs.Common.{◌≡◌, ◌∙◌, ℕ, zero, suc, ◌+◌, ◌*◌, ◌/◌, ◌<◌, ◌≤◌, max, List, [], ◌∷◌, ◌++◌, length, get_or, map, take, drop, refl, sym, ap, subst, arith, append_assoc}
+use Rattle.std.proofs.Common.{◌≡◌, ◌∙◌, ℕ, zero, suc, ◌+◌, ◌*◌, ◌/◌, ◌<◌, ◌≤◌, max, List, [], ◌∷◌, ◌++◌, length, get_or, map, take, drop, refl, sym, ap, arith}
 use Rattle.std.specs.List.{range_with_len, flat_map, All}
-use Rattle.std.proofs.lemmas.List.{length-map, get_or-map, get_or_default, take_all, take-append-drop, drop-drop, take-take, length-take, length-drop}
-use Rattle.std.proofs.lemmas.List.Elements.{All-head, All-tail, All-weaker, All-map, All-take, All-drop}
+use Rattle.std.proofs.lemmas.List.{length-map, get_or-map, take_all, drop-drop, length-take}
+use Rattle.std.proofs.lemmas.List.Elements.{All-weaker, All-map, All-take, All-drop}
 use Rattle.std.proofs.lemmas.List.FromFn.{fill_by_all, length-map-range_with_len}
 use Rattle.std.proofs.Math.Seq.{take-add}
 use Rattle.std.proofs.Math.Nat.{mul-suc, mul-zero, mul-add}
@@ -12,7 +12,7 @@ use Rattle.sub_types.specs.declared.kind.Ty.{Ty}
 use Rattle.sub_types.specs.declared.value.Value.{Value}
 use Rattle.sub_types.specs.declared.value.Value.TheVariants as values
 use Rattle.arrow_meta.specs.Buffers.{first_value, other_values}
-use Rattle.arrow_meta.specs.File.{BATCH_ROWS, batches}
+use Rattle.arrow_meta.specs.File.{batches}
 
 -- the columns of rows of so many types
 abbrev pub columns_of_rows : List Ty → List (List Value) → List (List Value)

@@ -1,12 +1,10 @@
 -- The metadata of a record batch has fewer than 2^31 bytes where the footer of the same types has.
-use Rattle.std.proofs.Common.{rules, ◌≡◌, ◌∙◌, ℕ, zero, suc, ◌+◌, ◌*◌, ◌/◌, ◌^◌, ◌<◌, ◌≤◌, List, [], ◌∷◌, ◌++◌, length, map, if◌then◌else◌, refl, sym, ap, arith, lit≤, length-append}
+use Rattle.std.proofs.Common.{rules, ◌≡◌, ℕ, ◌+◌, ◌*◌, ◌^◌, ◌<◌, ◌≤◌, List, [], ◌∷◌, ◌++◌, length, if◌then◌else◌, refl, arith, lit≤, length-append}
 use Rattle.std.specs.List.{flat_map, sum}
-use Rattle.std.proofs.lemmas.List.{length-map}
 use Rattle.std.proofs.lemmas.List.Sums.{sum_by-cons}
 use Rattle.byteorder.specs.Endian.{little_bytes}
 use Rattle.fb_bytes.specs.Layout.{Laid, Part, Number, Offset, behind, cells, filled, round_up, in_order, offsets, table_laid, table_own, table_place, table_end, vtable, tables_laid, structs_laid, text_laid, buffer_of}
 use Rattle.fb_bytes.specs.ReadBack.{IsNear}
-use Rattle.fb_bytes.specs.Laws.{LaidIsNear, LaidLengths}
 use Rattle.fb_bytes.proofs.LawProofs.{near_laws, length_laws}
 use Rattle.fb_bytes.proofs.TableLemmas.{round_up-least, length-filled}
 use Rattle.fb_bytes.proofs.ObjectLemmas.{length-buffer_of}
@@ -16,7 +14,7 @@ use Rattle.sub_types.specs.declared.kind.Ty.{Ty}
 use Rattle.sub_types.specs.declared.value.Value.{Value}
 use Rattle.arrow_meta.specs.declared.field.Layout.TheVariants.{Plain}
 use Rattle.arrow_meta.specs.Buffers.{batch_buffers, batch_nodes, body_of, buffer_places}
-use Rattle.arrow_meta.specs.Messages.{Place, VERSION, type_tag, type_laid, int_laid, field_laid, fields_laid, schema_laid, message_laid, pair_bytes, record_laid, record_message, block_bytes, footer_laid}
+use Rattle.arrow_meta.specs.Messages.{Place, VERSION, type_tag, type_laid, field_laid, fields_laid, schema_laid, pair_bytes, record_laid, record_message, block_bytes, footer_laid}
 use Rattle.arrow_meta.specs.File.{batch_metadata}
 use Rattle.arrow_meta.specs.Batch.{known_buffers}
 use Rattle.arrow_meta.proofs.Lengths.{message_length, pairs_length}

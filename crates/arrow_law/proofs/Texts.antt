@@ -1,9 +1,9 @@
 -- Texts and binaries are read back from their offsets and bytes.
-use Rattle.std.proofs.Common.{◌≡◌, ◌∙◌, ℕ, zero, suc, ◌+◌, ◌-◌, ◌*◌, ◌^◌, ◌<◌, ◌≤◌, ◌==◌, ℤ, pos, List, [], ◌∷◌, ◌++◌, Bool, true, false, Option, Some, None, length, get_or, map, refl, sym, ap, subst, arith, add-one, nat_le, ◌&&◌, if◌then◌else◌}
+use Rattle.std.proofs.Common.{◌≡◌, ◌∙◌, ℕ, zero, suc, ◌+◌, ◌^◌, ◌<◌, ◌≤◌, ◌==◌, pos, List, [], ◌∷◌, ◌++◌, Bool, true, false, Some, length, get_or, map, refl, sym, ap, arith, add-one, nat_le}
 use Rattle.std.specs.List.{range_with_len, flat_map, list_all, All, slice_range, slice_index}
 use Rattle.std.specs.Option.{option_map}
 use Rattle.std.specs.Int.{w32, cast_signed}
-use Rattle.std.specs.Str.{is_utf8, IsUtf8}
+use Rattle.std.specs.Str.{IsUtf8}
 use Rattle.std.proofs.lemmas.Bool.{le-leb}
 use Rattle.std.proofs.lemmas.Bool.Decides.{nat_tests}
 use Rattle.std.proofs.lemmas.Int.{to_z_pos}
@@ -17,10 +17,9 @@ use Rattle.sub_types.specs.Optional.{optional}
 use Rattle.sub_types.specs.declared.value.Value.{Value}
 use Rattle.sub_types.specs.declared.value.Value.TheVariants as values
 use Rattle.arrow_meta.specs.Buffers.{is_valid, text_bytes, text_ends}
-use Rattle.arrow_meta.specs.Optional.{◌>>=◌, when, all_of, natural}
-use Rattle.arrow_meta.specs.Values.{unsigned_in, signed_in, offsets_in, are_offsets, pieces_of, pieces_in, texts_in, is_text, binaries_in}
+use Rattle.arrow_meta.specs.Optional.{◌>>=◌, all_of, natural}
+use Rattle.arrow_meta.specs.Values.{unsigned_in, offsets_in, are_offsets, pieces_of, pieces_in, texts_in, is_text, binaries_in}
 use Rattle.arrow_meta.proofs.BackLaws.{flat_map-map}
-use Rattle.arrow_law.proofs.Options.{all_of_some}
 use Rattle.arrow_law.proofs.Slots.{unsigned_back}
 use Rattle.arrow_law.proofs.Pieces.{joined, bounds, length-bounds, bounds_bytes, bound_low, bound_rises, piece_at}
 
@@ -30,10 +29,6 @@ signed_pos [] low = refl
 signed_pos (n ∷ numbers) low =
     ap (λ z. z ∷ map (cast_signed w32) numbers) (to_z_pos w32 n (low 0 (omega arith)))
     ∙ ap (λ rest. pos n ∷ rest) (signed_pos numbers (λ k below. low (suc k) (omega arith)))
-
-same_map : (numbers : List ℕ) → map (λ n. n) numbers ≡ numbers
-same_map [] = refl
-same_map (n ∷ numbers) = ap (λ rest. n ∷ rest) (same_map numbers)
 
 naturals : (numbers : List ℕ) → all_of (map natural (map pos numbers)) ≡ Some numbers
 naturals [] = refl
@@ -106,18 +101,14 @@ bytes_values : (column : List Value) → All IsBytes column → map bytes_value 
 bytes_values [] each = refl
 bytes_values (values.Null ∷ column) each = ap (λ rest. values.Null ∷ rest) (bytes_values column (All-tail IsBytes values.Null column each))
 bytes_values (values.Bytes bytes ∷ column) each = ap (λ rest. values.Bytes bytes ∷ rest) (bytes_values column (All-tail IsBytes (values.Bytes bytes) column each))
-bytes_values (values.Bool b ∷ column) each = absurd (All-head IsBytes (values.Bool b) column each)
-bytes_values (values.Int n ∷ column) each = absurd (All-head IsBytes (values.Int n) column each)
-bytes_values (values.Dec n ∷ column) each = absurd (All-head IsBytes (values.Dec n) column each)
+bytes_values (value ∷ column) each = absurd (All-head IsBytes value column each)
 
 texts_pass : (column : List Value) → All IsText column → list_all is_text (optional (map text_bytes column) (map is_valid column)) ≡ true
 texts_pass [] each = refl
 texts_pass (values.Null ∷ column) each = texts_pass column (All-tail IsText values.Null column each)
 texts_pass (values.Bytes bytes ∷ column) each =
     rw (is_utf8-from_IsUtf8 bytes (All-head IsText (values.Bytes bytes) column each)) (texts_pass column (All-tail IsText (values.Bytes bytes) column each))
-texts_pass (values.Bool b ∷ column) each = absurd (All-head IsText (values.Bool b) column each)
-texts_pass (values.Int n ∷ column) each = absurd (All-head IsText (values.Int n) column each)
-texts_pass (values.Dec n ∷ column) each = absurd (All-head IsText (values.Dec n) column each)
+texts_pass (value ∷ column) each = absurd (All-head IsText value column each)
 
 -- the buffers of a column of texts or binaries
 abbrev pub offset_bytes : List Value → List ℕ
@@ -140,9 +131,7 @@ binaries_back column short each = ap (option_map (map bytes_value)) (binaries_in
 texts_are_bytes : (value : Value) → IsText value → IsBytes value
 texts_are_bytes values.Null is = tt
 texts_are_bytes (values.Bytes bytes) is = tt
-texts_are_bytes (values.Bool b) is = absurd is
-texts_are_bytes (values.Int n) is = absurd is
-texts_are_bytes (values.Dec n) is = absurd is
+texts_are_bytes value is = absurd is
 
 pub texts_back : (column : List Value) → length (flat_map text_bytes column) < 2 ^ 31 → All IsText column
     → option_map (map bytes_value) (texts_in false (length column) (map is_valid column) (offset_bytes column) (flat_map text_bytes column)) ≡ Some column

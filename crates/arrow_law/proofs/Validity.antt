@@ -1,13 +1,11 @@
 -- Which values of a column are null, and its values beside that.
-use Rattle.std.proofs.Common.{◌≡◌, ◌∙◌, ℕ, zero, suc, ◌+◌, ◌*◌, ◌/◌, ◌^◌, ◌<◌, ◌≤◌, ◌==◌, List, [], ◌∷◌, Bool, true, false, Option, Some, None, length, get_or, map, replicate, refl, sym, ap, arith, nat_le, if◌then◌else◌}
-use Rattle.std.specs.List.{range_with_len, list_all}
+use Rattle.std.proofs.Common.{◌≡◌, ◌∙◌, ◌*◌, ◌<◌, ◌==◌, List, [], ◌∷◌, Bool, true, false, Some, length, map, replicate, refl, sym, ap, arith, nat_le, if◌then◌else◌}
+use Rattle.std.specs.List.{list_all}
 use Rattle.std.proofs.lemmas.Bool.{le-leb}
 use Rattle.std.proofs.lemmas.List.{length-map}
-use Rattle.sub_types.specs.Bits.{bits_of}
 use Rattle.sub_types.specs.declared.value.Value.{Value}
 use Rattle.sub_types.specs.declared.value.Value.TheVariants as values
-use Rattle.arrow_meta.specs.Buffers.{is_valid, is_truth, packed, validity_buffer}
-use Rattle.arrow_meta.specs.Optional.{when}
+use Rattle.arrow_meta.specs.Buffers.{is_valid, packed, validity_buffer}
 use Rattle.arrow_meta.specs.Values.{bits_in, validity_in}
 use Rattle.arrow_law.proofs.PackedBits.{bits_back, length-packed}
 
@@ -23,10 +21,7 @@ bits_in_back bits =
 all_valid : (column : List Value) → list_all is_valid column ≡ true → replicate (length column) true ≡ map is_valid column
 all_valid [] all = refl
 all_valid (values.Null ∷ column) all = absurd (cc)
-all_valid (values.Bool b ∷ column) all = ap (λ rest. true ∷ rest) (all_valid column all)
-all_valid (values.Int n ∷ column) all = ap (λ rest. true ∷ rest) (all_valid column all)
-all_valid (values.Dec n ∷ column) all = ap (λ rest. true ∷ rest) (all_valid column all)
-all_valid (values.Bytes bytes ∷ column) all = ap (λ rest. true ∷ rest) (all_valid column all)
+all_valid (value ∷ column) all = ap (λ rest. true ∷ rest) (all_valid column all)
 
 -- where one isn't, there are bytes
 some_bytes : (column : List Value) → list_all is_valid column ≡ false → (length (packed (map is_valid column)) == 0) ≡ false
