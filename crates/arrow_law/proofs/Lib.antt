@@ -1,3 +1,4 @@
+mod Worked
 pub mod Options
 pub mod PackedBits
 pub mod Slots
