@@ -2,11 +2,10 @@
 use Rattle.std.proofs.Common.{◌≡◌, ◌∙◌, ℕ, ◌*◌, ◌^◌, ◌<◌, ◌≤◌, List, [], ◌∷◌, Some, None, length, map, refl, sym, ap, arith}
 use Rattle.std.specs.List.{flat_map, All}
 use Rattle.std.specs.Option.{option_map}
-use Rattle.std.specs.Int.{w8, w16, w32, w64, cast_unsigned}
+use Rattle.std.specs.Int.{Width, w8, w16, w32, w64}
 use Rattle.std.proofs.lemmas.List.{length-map, length-append}
 use Rattle.std.proofs.lemmas.List.Elements.{All-head, All-tail, All-weaker}
 use Rattle.std.proofs.Math.Facts.{Fits-of_z, Fits-lt-pow}
-use Rattle.byteorder.specs.Endian.{little_bytes}
 use Rattle.sub_types.specs.Kind.{IsKind}
 use Rattle.sub_types.specs.Value.{InKind, IsShort, FitsTy, MAX_TEXT}
 use Rattle.sub_types.specs.Nullable.{bool_value}
@@ -18,10 +17,10 @@ use Rattle.sub_types.specs.declared.value.Value.{Value}
 use Rattle.sub_types.specs.declared.value.Value.TheVariants as values
 use Rattle.arrow_meta.specs.declared.field.Layout.TheVariants.{Plain}
 use Rattle.arrow_meta.specs.Buffers.{is_valid, is_truth, text_bytes, slot_bytes, packed, value_buffers, column_buffers}
-use Rattle.arrow_meta.specs.Values.{values_in, bits_in}
+use Rattle.arrow_meta.specs.Values.{values_in, bits_in, ints_in}
 use Rattle.arrow_meta.specs.Batch.{buffer_values}
 use Rattle.arrow_law.proofs.Validity.{bits_in_back, validity_back}
-use Rattle.arrow_law.proofs.Numbers.{IsInt, IsDec, ints_back, decimals_back, int_of}
+use Rattle.arrow_law.proofs.Numbers.{IsDec, IsSlot, HoldsWidth, ints_back, decimals_back}
 use Rattle.arrow_law.proofs.Texts.{IsBytes, IsText, binaries_back, texts_back}
 
 -- null, or a truth value
@@ -79,76 +78,53 @@ decimal_kind precision scale values.Null is = tt
 decimal_kind precision scale (values.Dec n) is = is
 decimal_kind precision scale value is = absurd is
 
-i8_kind : (value : Value) → InKind kinds.I8 value → IsInt w8 value
-i8_kind values.Null is = tt
-i8_kind (values.Int n) is = is
-i8_kind value is = absurd is
-
-i8_slot : (value : Value) → IsInt w8 value → slot_bytes kinds.I8 value ≡ little_bytes 1 (cast_unsigned w8 (int_of value))
-i8_slot values.Null is = refl
-i8_slot (values.Int n) is = refl
+i8_slot : (value : Value) → InKind kinds.I8 value → IsSlot w8 1 (slot_bytes kinds.I8 value) value
+i8_slot values.Null is = record { whole = tt; slot = refl }
+i8_slot (values.Int n) is = record { whole = is; slot = refl }
 i8_slot value is = absurd is
 
-i16_kind : (value : Value) → InKind kinds.I16 value → IsInt w16 value
-i16_kind values.Null is = tt
-i16_kind (values.Int n) is = is
-i16_kind value is = absurd is
-
-i16_slot : (value : Value) → IsInt w16 value → slot_bytes kinds.I16 value ≡ little_bytes 2 (cast_unsigned w16 (int_of value))
-i16_slot values.Null is = refl
-i16_slot (values.Int n) is = refl
+i16_slot : (value : Value) → InKind kinds.I16 value → IsSlot w16 2 (slot_bytes kinds.I16 value) value
+i16_slot values.Null is = record { whole = tt; slot = refl }
+i16_slot (values.Int n) is = record { whole = is; slot = refl }
 i16_slot value is = absurd is
 
-i32_kind : (value : Value) → InKind kinds.I32 value → IsInt w32 value
-i32_kind values.Null is = tt
-i32_kind (values.Int n) is = is
-i32_kind value is = absurd is
-
-i32_slot : (value : Value) → IsInt w32 value → slot_bytes kinds.I32 value ≡ little_bytes 4 (cast_unsigned w32 (int_of value))
-i32_slot values.Null is = refl
-i32_slot (values.Int n) is = refl
+i32_slot : (value : Value) → InKind kinds.I32 value → IsSlot w32 4 (slot_bytes kinds.I32 value) value
+i32_slot values.Null is = record { whole = tt; slot = refl }
+i32_slot (values.Int n) is = record { whole = is; slot = refl }
 i32_slot value is = absurd is
 
-i64_kind : (value : Value) → InKind kinds.I64 value → IsInt w64 value
-i64_kind values.Null is = tt
-i64_kind (values.Int n) is = is
-i64_kind value is = absurd is
-
-i64_slot : (value : Value) → IsInt w64 value → slot_bytes kinds.I64 value ≡ little_bytes 8 (cast_unsigned w64 (int_of value))
-i64_slot values.Null is = refl
-i64_slot (values.Int n) is = refl
+i64_slot : (value : Value) → InKind kinds.I64 value → IsSlot w64 8 (slot_bytes kinds.I64 value) value
+i64_slot values.Null is = record { whole = tt; slot = refl }
+i64_slot (values.Int n) is = record { whole = is; slot = refl }
 i64_slot value is = absurd is
 
-date_kind : (value : Value) → InKind kinds.Date value → IsInt w32 value
-date_kind values.Null is = tt
-date_kind (values.Int n) is = is
-date_kind value is = absurd is
-
-date_slot : (value : Value) → IsInt w32 value → slot_bytes kinds.Date value ≡ little_bytes 4 (cast_unsigned w32 (int_of value))
-date_slot values.Null is = refl
-date_slot (values.Int n) is = refl
+date_slot : (value : Value) → InKind kinds.Date value → IsSlot w32 4 (slot_bytes kinds.Date value) value
+date_slot values.Null is = record { whole = tt; slot = refl }
+date_slot (values.Int n) is = record { whole = is; slot = refl }
 date_slot value is = absurd is
 
-timestamp_kind : (value : Value) → InKind kinds.Timestamp value → IsInt w64 value
-timestamp_kind values.Null is = tt
-timestamp_kind (values.Int n) is = is
-timestamp_kind value is = absurd is
-
-timestamp_slot : (value : Value) → IsInt w64 value → slot_bytes kinds.Timestamp value ≡ little_bytes 8 (cast_unsigned w64 (int_of value))
-timestamp_slot values.Null is = refl
-timestamp_slot (values.Int n) is = refl
+timestamp_slot : (value : Value) → InKind kinds.Timestamp value → IsSlot w64 8 (slot_bytes kinds.Timestamp value) value
+timestamp_slot values.Null is = record { whole = tt; slot = refl }
+timestamp_slot (values.Int n) is = record { whole = is; slot = refl }
 timestamp_slot value is = absurd is
+
+-- the whole numbers of a column of a kind
+whole_back : (kind : Kind) (width : Width) (size : ℕ) (column : List Value) → HoldsWidth width size
+    → ((value : Value) → InKind kind value → IsSlot width size (slot_bytes kind value) value) → All (InKind kind) column
+    → ints_in width size (length column) (map is_valid column) (flat_map (slot_bytes kind) column) ≡ Some column
+whole_back kind width size column holds slot each =
+    ints_back width size (slot_bytes kind) column holds (All-weaker (InKind kind) (λ value. IsSlot width size (slot_bytes kind value) value) slot column each)
 
 -- the values of a column of a kind
 values_back : (kind : Kind) (column : List Value) → IsKind kind → All (InKind kind) column → length (flat_map text_bytes column) < 2 ^ 31
     → values_in kind Plain None (length column) (map is_valid column) (value_buffers kind column) ≡ Some column
 values_back kinds.Bool column is each short = truths_back column (All-weaker (InKind kinds.Bool) IsBool bool_kind column each)
-values_back kinds.I8 column is each short = ints_back w8 1 (slot_bytes kinds.I8) column (λ z fits. Fits-lt-pow (Fits-of_z fits)) (All-weaker (InKind kinds.I8) (IsInt w8) i8_kind column each) i8_slot
-values_back kinds.I16 column is each short = ints_back w16 2 (slot_bytes kinds.I16) column (λ z fits. Fits-lt-pow (Fits-of_z fits)) (All-weaker (InKind kinds.I16) (IsInt w16) i16_kind column each) i16_slot
-values_back kinds.I32 column is each short = ints_back w32 4 (slot_bytes kinds.I32) column (λ z fits. Fits-lt-pow (Fits-of_z fits)) (All-weaker (InKind kinds.I32) (IsInt w32) i32_kind column each) i32_slot
-values_back kinds.I64 column is each short = ints_back w64 8 (slot_bytes kinds.I64) column (λ z fits. Fits-lt-pow (Fits-of_z fits)) (All-weaker (InKind kinds.I64) (IsInt w64) i64_kind column each) i64_slot
-values_back kinds.Date column is each short = ints_back w32 4 (slot_bytes kinds.Date) column (λ z fits. Fits-lt-pow (Fits-of_z fits)) (All-weaker (InKind kinds.Date) (IsInt w32) date_kind column each) date_slot
-values_back kinds.Timestamp column is each short = ints_back w64 8 (slot_bytes kinds.Timestamp) column (λ z fits. Fits-lt-pow (Fits-of_z fits)) (All-weaker (InKind kinds.Timestamp) (IsInt w64) timestamp_kind column each) timestamp_slot
+values_back kinds.I8 column is each short = whole_back kinds.I8 w8 1 column (λ z fits. Fits-lt-pow (Fits-of_z fits)) i8_slot each
+values_back kinds.I16 column is each short = whole_back kinds.I16 w16 2 column (λ z fits. Fits-lt-pow (Fits-of_z fits)) i16_slot each
+values_back kinds.I32 column is each short = whole_back kinds.I32 w32 4 column (λ z fits. Fits-lt-pow (Fits-of_z fits)) i32_slot each
+values_back kinds.I64 column is each short = whole_back kinds.I64 w64 8 column (λ z fits. Fits-lt-pow (Fits-of_z fits)) i64_slot each
+values_back kinds.Date column is each short = whole_back kinds.Date w32 4 column (λ z fits. Fits-lt-pow (Fits-of_z fits)) date_slot each
+values_back kinds.Timestamp column is each short = whole_back kinds.Timestamp w64 8 column (λ z fits. Fits-lt-pow (Fits-of_z fits)) timestamp_slot each
 values_back kinds.Text column is each short = texts_back column short (All-weaker (InKind kinds.Text) IsText text_kind column each)
 values_back kinds.Binary column is each short = binaries_back column short (All-weaker (InKind kinds.Binary) IsBytes binary_kind column each)
 values_back (kinds.Decimal precision scale) column is each short =

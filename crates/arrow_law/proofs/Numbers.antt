@@ -84,15 +84,21 @@ ints_values width (values.Null ∷ column) each = ap (λ rest. values.Null ∷ r
 ints_values width (values.Int n ∷ column) each = ap (λ rest. values.Int n ∷ rest) (ints_values width column (All-tail (IsInt width) (values.Int n) column each))
 ints_values width (value ∷ column) each = absurd (All-head (IsInt width) value column each)
 
+-- null or a whole number of a width, and the bytes of its slot
+pub record IsSlot (width : Width) (size : ℕ) (bytes : List ℕ) (value : Value) : Type 0 where
+  pub whole : IsInt width value
+  pub slot : bytes ≡ little_bytes size (cast_unsigned width (int_of value))
+
 -- whole numbers are read back
-pub ints_back : (width : Width) (size : ℕ) (slot : Value → List ℕ) (column : List Value) → HoldsWidth width size → All (IsInt width) column
-    → ((value : Value) → IsInt width value → slot value ≡ little_bytes size (cast_unsigned width (int_of value)))
+pub ints_back : (width : Width) (size : ℕ) (slot : Value → List ℕ) (column : List Value) → HoldsWidth width size → All (λ value. IsSlot width size (slot value) value) column
     → ints_in width size (length column) (map is_valid column) (flat_map slot column) ≡ Some column
-ints_back width size slot column holds each slots =
-    let fits = All-weaker (IsInt width) (λ value. FitsSigned width (int_of value)) (int_fits width) column each in
-    let same = All-weaker (IsInt width) (λ value. slot value ≡ little_bytes size (cast_unsigned width (int_of value))) slots column each in
+ints_back width size slot column holds slots =
+    let P : Value → Type 0 = λ value. IsSlot width size (slot value) value in
+    let whole = All-weaker P (IsInt width) (λ value is. is.whole) column slots in
+    let fits = All-weaker (IsInt width) (λ value. FitsSigned width (int_of value)) (int_fits width) column whole in
+    let same = All-weaker P (λ value. slot value ≡ little_bytes size (cast_unsigned width (int_of value))) (λ value is. is.slot) column slots in
     ap (option_map (λ numbers. map int_value (optional numbers (map is_valid column)))) (signed_back width size slot column holds fits same)
-    ∙ ap (λ xs. Some xs) (ints_values width column each)
+    ∙ ap (λ xs. Some xs) (ints_values width column whole)
 
 -- null, or a decimal of at most so many digits
 abbrev pub IsDec : ℕ → Value → Type 0
