@@ -8,6 +8,7 @@ pub mod Footer
 pub mod Message
 pub mod Seen
 pub mod Written
+pub mod Known
 pub mod Optional
 pub mod Places
 pub mod Values

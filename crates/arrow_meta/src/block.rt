@@ -1,5 +1,5 @@
 // Blocks and pairs of numbers, read out of vectors of structs.
-ghost use Rattle.std.specs.Prelude.{◌≡◌, ◌<◌, length, map, IfOk};
+ghost use Rattle.std.specs.Prelude.{◌≡◌, ◌<◌, ◌^◌, length, map, vec_len, IfOk};
 ghost use Rattle.std.specs.List.{range_with_len};
 ghost use Rattle.arrow_meta.specs.Looked.{Answers};
 ghost use Rattle.arrow_meta.specs.Footer as spec;
@@ -14,7 +14,8 @@ use sub_types::NoMemory;
 /// The blocks in a slot of a footer (File.fbs, `Block`).
 #[tactic(auto, unfolding(crate::specs::Footer::blocks_in))]
 pub(crate) fn blocks(alloc: Global, footer: &Table<'_>, slot: u16) -> Result<Vec<Block>, MetaError>
-    ensures { Answers (λ blocks. blocks.items) result (spec.blocks_in footer.now slot) }
+    ensures blocks { Answers (λ blocks. blocks.items) result (spec.blocks_in footer.now slot) }
+    ensures few { IfOk result (λ blocks. vec_len blocks < 2 ^ 27) }
 {
     match footer.vector(slot, 24)? {
         None => Ok(Vec::new(alloc)),
@@ -25,7 +26,8 @@ pub(crate) fn blocks(alloc: Global, footer: &Table<'_>, slot: u16) -> Result<Vec
 // The blocks of a vector.
 fn vector_blocks(alloc: Global, vector: &FbVector<'_>) -> Result<Vec<Block>, NoMemory>
     requires { vector.now.width ≡ 24 }
-    ensures { IfOk result (λ blocks. blocks.items ≡ map (spec.block_at vector.now) (range_with_len 0 vector.now.count)) }
+    ensures blocks { IfOk result (λ blocks. blocks.items ≡ map (spec.block_at vector.now) (range_with_len 0 vector.now.count)) }
+    ensures few { IfOk result (λ blocks. vec_len blocks ≡ vector.now.count) }
 {
     let mut blocks = Vec::new(alloc);
     for i in 0..vector.len() {

@@ -1,5 +1,7 @@
 // The footer of a file, read (File.fbs, `Footer`).
-ghost use Rattle.std.specs.Prelude.{◌≡◌, ◌<◌, ◌^◌, length, IsOk, IfOk, IfSome, IfErr, Err};
+ghost use Rattle.std.specs.Prelude.{◌≡◌, ◌<◌, ◌^◌, length, IsOk, IfOk, IfSome, IfErr, Err, vec_len};
+ghost use Rattle.std.specs.List.{All};
+ghost use Rattle.arrow_meta.specs.Known.{IsShape};
 ghost use Rattle.arrow_meta.specs.Looked.{Answers};
 ghost use Rattle.arrow_meta.specs.Footer as spec;
 ghost use Rattle.arrow_meta.specs.Seen.{field_read, footer_seen, items_of, fields_of, columns_of};
@@ -28,7 +30,10 @@ pub fn read_footer(
     bytes: &[u8],
 ) -> Result<(Schema, Vec<Block>, Vec<Block>), MetaError>
     requires { length bytes.now < 2 ^ 31 }
-    ensures { Answers footer_seen result (spec.footer_in bytes.now) }
+    ensures footer { Answers footer_seen result (spec.footer_in bytes.now) }
+    ensures shapes { IfOk result (λ read. All (λ field. IsShape field.shape) read.0.columns) }
+    ensures few_dictionaries { IfOk result (λ read. vec_len read.1 < 2 ^ 27) }
+    ensures few_records { IfOk result (λ read. vec_len read.2 < 2 ^ 27) }
 {
     let footer = Table::root(bytes)?;
     let version = number(&footer, 0, 2, 0)?;
@@ -85,7 +90,8 @@ fn check_fields(fields: &FbVector<'_>) -> Result<(), MetaError>
 fn field_at<'a>(fields: &FbVector<'a>, i: u32) -> Result<FieldRead<'a>, MetaError>
     requires within { i < fields.now.count }
     requires offsets { fields.now.width ≡ 4 }
-    ensures { field_read result ≡ spec.field_at fields.now i }
+    ensures field { field_read result ≡ spec.field_at fields.now i }
+    ensures sound { IfOk result (λ field. IfSome field.shape IsShape) }
 {
     let found = fields.table_at(i)?;
     field(&found)
@@ -93,7 +99,8 @@ fn field_at<'a>(fields: &FbVector<'a>, i: u32) -> Result<FieldRead<'a>, MetaErro
 
 #[tactic(auto, unfolding(crate::specs::Footer::field_in))]
 fn field<'a>(found: &Table<'a>) -> Result<FieldRead<'a>, MetaError>
-    ensures { field_read result ≡ spec.field_in found.now }
+    ensures field { field_read result ≡ spec.field_in found.now }
+    ensures sound { IfOk result (λ field. IfSome field.shape IsShape) }
 {
     let name = found.text(0)?.unwrap_or(&[]);
     let nullable = number(found, 1, 1, 0)?;
@@ -109,7 +116,8 @@ fn field<'a>(found: &Table<'a>) -> Result<FieldRead<'a>, MetaError>
 fn columns(alloc: Global, fields: &Option<FbVector<'_>>) -> Result<Vec<FieldMeta>, MetaError>
     requires readable { IsOk (fields_of fields.now) }
     requires offsets { IfSome fields.now (λ vector. vector.width ≡ 4) }
-    ensures { Answers (λ columns. columns.items) result (columns_of (fields_of fields.now)) }
+    ensures columns { Answers (λ columns. columns.items) result (columns_of (fields_of fields.now)) }
+    ensures shapes { IfOk result (λ columns. All (λ field. IsShape field.shape) columns.items) }
 {
     match fields {
         None => Ok(Vec::new(alloc)),
@@ -120,7 +128,8 @@ fn columns(alloc: Global, fields: &Option<FbVector<'_>>) -> Result<Vec<FieldMeta
 fn vector_columns(alloc: Global, fields: &FbVector<'_>) -> Result<Vec<FieldMeta>, MetaError>
     requires readable { IsOk (items_of fields.now) }
     requires offsets { fields.now.width ≡ 4 }
-    ensures { Answers (λ columns. columns.items) result (columns_of (items_of fields.now)) }
+    ensures columns { Answers (λ columns. columns.items) result (columns_of (items_of fields.now)) }
+    ensures shapes { IfOk result (λ columns. All (λ field. IsShape field.shape) columns.items) }
 {
     let mut columns = Vec::new(alloc);
     for i in 0..fields.len() {

@@ -1,6 +1,7 @@
 // What is known of a column from its field (Schema.fbs, `Field` and the union `Type`).
-ghost use Rattle.std.specs.Prelude.{◌≡◌};
+ghost use Rattle.std.specs.Prelude.{◌≡◌, IfOk, IfSome};
 ghost use Rattle.arrow_meta.specs.Shapes as spec;
+ghost use Rattle.arrow_meta.specs.Known.{IsShape};
 
 use crate::look::{number, table};
 use crate::{Layout, MetaError, Shape};
@@ -90,7 +91,8 @@ fn wide(kind: Kind) -> Shape
 }
 
 fn int_shape(int: IntType) -> Shape
-    ensures { result ≡ spec.int_shape int }
+    ensures shape { result ≡ spec.int_shape int }
+    ensures sound { IsShape result }
 {
     if !int.signed {
         return SKIPPED;
@@ -106,14 +108,16 @@ fn int_shape(int: IntType) -> Shape
 
 #[tactic(auto, unfolding(crate::specs::Shapes::number_shape))]
 fn number_shape(int: &Table<'_>) -> Result<Shape, MetaError>
-    ensures { result ≡ spec.number_shape int.now }
+    ensures shape { result ≡ spec.number_shape int.now }
+    ensures sound { IfOk result IsShape }
 {
     Ok(int_shape(int_type(int)?))
 }
 
 #[tactic(auto, unfolding(crate::specs::Shapes::decimal_in))]
 fn decimal_shape(decimal: &Table<'_>) -> Result<Shape, MetaError>
-    ensures { result ≡ spec.decimal_in decimal.now }
+    ensures shape { result ≡ spec.decimal_in decimal.now }
+    ensures sound { IfOk result IsShape }
 {
     let precision = number(decimal, 0, 4, 0)?;
     let scale = number(decimal, 1, 4, 0)?;
@@ -129,7 +133,8 @@ fn decimal_shape(decimal: &Table<'_>) -> Result<Shape, MetaError>
 
 #[tactic(auto, unfolding(crate::specs::Shapes::date_in))]
 fn date_shape(date: &Table<'_>) -> Result<Shape, MetaError>
-    ensures { result ≡ spec.date_in date.now }
+    ensures shape { result ≡ spec.date_in date.now }
+    ensures sound { IfOk result IsShape }
 {
     let unit = number(date, 0, 2, 1)?;
     if unit == 0 {
@@ -140,7 +145,8 @@ fn date_shape(date: &Table<'_>) -> Result<Shape, MetaError>
 
 #[tactic(auto, unfolding(crate::specs::Shapes::timestamp_in))]
 fn timestamp_shape(timestamp: &Table<'_>) -> Result<Shape, MetaError>
-    ensures { result ≡ spec.timestamp_in timestamp.now }
+    ensures shape { result ≡ spec.timestamp_in timestamp.now }
+    ensures sound { IfOk result IsShape }
 {
     let unit = number(timestamp, 0, 2, 0)?;
     let has_zone = timestamp.text(1)?.is_some();
@@ -152,7 +158,8 @@ fn timestamp_shape(timestamp: &Table<'_>) -> Result<Shape, MetaError>
 
 // The shape of a type whose table isn't looked at, or none where its buffers aren't counted.
 fn tag_shape(tag: u64) -> Option<Shape>
-    ensures { result ≡ spec.tag_shape tag }
+    ensures shape { result ≡ spec.tag_shape tag }
+    ensures sound { IfSome result IsShape }
 {
     match tag {
         4 => Some(plain(Kind::Binary)),
@@ -168,7 +175,8 @@ fn tag_shape(tag: u64) -> Option<Shape>
 // The shape that the type alone gives.
 #[tactic(auto, unfolding(crate::specs::Shapes::type_shape))]
 fn type_shape(field: &Table<'_>, tag: u64) -> Result<Option<Shape>, MetaError>
-    ensures { result ≡ spec.type_shape field.now tag }
+    ensures shape { result ≡ spec.type_shape field.now tag }
+    ensures sound { IfOk result (λ shape. IfSome shape IsShape) }
 {
     if tag == 2 {
         let int = table(field, 3)?;
@@ -190,7 +198,8 @@ fn type_shape(field: &Table<'_>, tag: u64) -> Result<Option<Shape>, MetaError>
 }
 
 fn index_shape(encoding: Encoding, wide: bool) -> Shape
-    ensures { result ≡ spec.index_shape encoding wide }
+    ensures shape { result ≡ spec.index_shape encoding wide }
+    ensures sound { IsShape result }
 {
     let bits = encoding.index.bits;
     if bits == 8 || bits == 16 || bits == 32 || bits == 64 {
@@ -208,7 +217,8 @@ fn index_shape(encoding: Encoding, wide: bool) -> Shape
 }
 
 fn encoded_shape(tag: u64, encoding: Encoding) -> Shape
-    ensures { result ≡ spec.encoded_shape tag encoding }
+    ensures shape { result ≡ spec.encoded_shape tag encoding }
+    ensures sound { IsShape result }
 {
     match tag {
         5 => index_shape(encoding, false),
@@ -220,7 +230,8 @@ fn encoded_shape(tag: u64, encoding: Encoding) -> Shape
 /// What is known of a column from its field, or none where its buffers aren't counted.
 #[tactic(auto, unfolding(crate::specs::Shapes::shape_in))]
 pub(crate) fn shape(field: &Table<'_>) -> Result<Option<Shape>, MetaError>
-    ensures { result ≡ spec.shape_in field.now }
+    ensures shape { result ≡ spec.shape_in field.now }
+    ensures sound { IfOk result (λ shape. IfSome shape IsShape) }
 {
     let tag = number(field, 2, 1, 0)?;
     let shape = type_shape(field, tag)?;

@@ -7,7 +7,7 @@ use Rattle.arrow_meta.proofs.footer_reading.check_fields.Goals as goal
 pub returns-in_err-_field-clause-err : goal.returns-in_err-_field-clause-err
 returns-in_err-_field-clause-err c =
     let fields = c.args.fields.now in
-    let here : field_at fields (0 + c.loop-i.i) ≡ Err c.in_err-_field.field-0.0 = ap (field_at fields) (zero-add c.loop-i.i) ∙ sym c.in_err-_field.ensures in
+    let here : field_at fields (0 + c.loop-i.i) ≡ Err c.in_err-_field.field-0.0 = ap (field_at fields) (zero-add c.loop-i.i) ∙ sym c.in_err-_field.ensures.field in
     let below : c.loop-i.i < fields.count = omega arith in
     let first : items_of fields ≡ Err c.in_err-_field.field-0.0 = collect_err (field_at fields) 0 fields.count c.loop-i.i c.in_err-_field.field-0.0 below (λ k low high. c.loop-i.invariant k (omega arith)) here in
     search (rules, first)

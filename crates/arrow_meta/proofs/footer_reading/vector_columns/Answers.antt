@@ -1,4 +1,7 @@
-use Rattle.std.proofs.Common.{rules, ◌≡◌, ◌∙◌, ◌+◌, ◌<◌, ◌++◌, ◌∷◌, [], Ok, Some, ap, sym, arith}
+use Rattle.std.proofs.Common.{rules, ◌≡◌, ◌∙◌, ◌+◌, ◌<◌, ◌++◌, ◌∷◌, [], Ok, Some, Option, IfSome, ap, sym, subst, arith}
+use Rattle.std.proofs.lemmas.List.Elements.{All-push}
+use Rattle.arrow_meta.specs.declared.field.Shape.{Shape}
+use Rattle.arrow_meta.specs.Known.{IsShape}
 use Rattle.arrow_meta.specs.declared.field.FieldMeta.{FieldMeta}
 use Rattle.arrow_meta.specs.Looked.{◌>>=◌}
 use Rattle.arrow_meta.specs.Footer.{Field, field_at, columns_from}
@@ -13,8 +16,12 @@ loop-i-preserved c =
     let below : i < fields.count = omega arith in
     let read = c.in_ok-field.field in
     let field : Field = record { name = read.name.now; nullable = read.nullable; shape = read.shape } in
-    let next = next_column (field_at fields) fields.count i c.loop-i.columns.items field c.in-Some.shape below (sym c.in_ok-field.ensures) c.in-Some.is in
+    let next = next_column (field_at fields) fields.count i c.loop-i.columns.items field c.in-Some.shape below (sym c.in_ok-field.ensures.field) c.in-Some.is in
+    let P : Option Shape → Type 0 = λ shape. IfSome shape IsShape in
+    let known = subst P c.in-Some.is c.in_ok-field.ensures.sound in
     record {
       readable = rest_of-tail_ok (field_at fields) fields.count i below c.loop-i.invariant.readable;
       columns = rw (c.in_ok-push.ensures.items, c.in_ok-of.ensures) (sym next ∙ c.loop-i.invariant.columns);
+      shapes = rw c.in_ok-push.ensures.items (All-push (λ (f : FieldMeta). IsShape f.shape) c.loop-i.columns.items
+          (record { name = c.in_ok-of.field-0; nullable = read.nullable; shape = c.in-Some.shape }) c.loop-i.invariant.shapes known);
     }

@@ -1,4 +1,6 @@
 use Rattle.std.proofs.Common.{◌≡◌, IsOk}
+use Rattle.std.specs.List.{All}
+use Rattle.arrow_meta.specs.Known.{IsShape}
 use Rattle.arrow_meta.specs.Looked.{◌>>=◌}
 use Rattle.arrow_meta.specs.Footer.{field_at, columns_from}
 use Rattle.arrow_meta.specs.Seen.{columns_of, items_of}
@@ -10,4 +12,5 @@ abbrev pub invariant-loop-i : goal.invariant-loop-i
 invariant-loop-i l = record {
   readable : IsOk (rest_of (field_at l.fields) l.fields.count l.i);
   columns : prefixed l.columns.items (rest_of (field_at l.fields) l.fields.count l.i >>= columns_from l.i) ≡ columns_of (items_of l.fields);
+  shapes : All (λ field. IsShape field.shape) l.columns.items;
 }
