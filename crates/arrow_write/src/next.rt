@@ -1,0 +1,39 @@
+// The messages of the output batches, one after the other.
+ghost use Rattle.std.specs.Prelude.{◌≡◌, ◌+◌, ◌≤◌, IfOk, OnOk, take, drop, length};
+ghost use Rattle.std.specs.List.{All, flat_map};
+ghost use Rattle.batch.specs.BatchRows.{types_of, rows_of};
+ghost use Rattle.arrow_write.specs.Cut.{IsInside, rows_in, rows_before};
+ghost use Rattle.arrow_write.specs.Progress.{IsMessage};
+
+use crate::cursor::Cursor;
+use crate::cut::batch_of_parts;
+use crate::message::{Message, batch_message, empty_message};
+use batch::Batch;
+use std::alloc::Global;
+use sub_types::{NoMemory, Ty};
+
+// The message of the next `count` rows, which begin at `place` of all rows. The cursor stands behind them afterwards.
+pub(crate) fn next_message(
+    alloc: Global,
+    types: &[Ty],
+    batches: &[Batch],
+    cursor: &mut Cursor,
+    place: u64,
+    count: u64,
+) -> Result<Message, NoMemory>
+    requires few { length types.now ≤ 1024 }
+    requires alike { All (λ batch. types_of batch ≡ types.now) batches.now }
+    requires inside { IsInside batches.now cursor.old }
+    requires place { rows_before batches.now cursor.old ≡ place }
+    requires enough { place + count ≤ rows_in batches.now }
+    ensures message { IfOk result (IsMessage types.now (take count (drop place (flat_map rows_of batches.now)))) }
+    ensures moved { OnOk result (rows_before batches.now cursor.new ≡ place + count) }
+    ensures inside { OnOk result (IsInside batches.now cursor.new) }
+{
+    if count == 0 {
+        return empty_message(alloc, types);
+    }
+    let parts = cursor.next_parts(alloc, batches, count)?;
+    let batch = batch_of_parts(alloc, types, batches, &parts, place, count)?;
+    batch_message(alloc, &batch)
+}
