@@ -1,5 +1,5 @@
 -- Parts of batches that follow one another, as a part of all rows or of all columns.
-use Rattle.std.proofs.Common.{◌≡◌, ◌+◌, ◌-◌, ◌<◌, ◌≤◌, ◌∙◌, ℕ, zero, suc, List, [], ◌∷◌, ◌++◌, length, map, get_or, take, drop, Some, slice_get, zero-add, sym, ap, refl, subst, arith, ⊎_elim}
+use Rattle.std.proofs.Common.{◌≡◌, ◌+◌, ◌-◌, ◌<◌, ◌≤◌, ◌∙◌, ℕ, zero, suc, List, [], ◌∷◌, ◌++◌, length, map, get_or, take, drop, Some, slice_get, zero-add, sym, ap, refl, subst, arith, ⊎_elim, append-nil}
 use Rattle.std.specs.List.{All, flat_map, sum_by, slice_range, range_with_len}
 use Rattle.std.proofs.Math.ListN.{get_or-map}
 use Rattle.std.proofs.lemmas.Bool.{cases_lt}
@@ -18,11 +18,11 @@ use Rattle.sub_types.specs.declared.value.Value.TheVariants.{Null}
 use Rattle.batch.specs.declared.batch.Batch.{Batch}
 use Rattle.batch.specs.declared.column.Column.{Column}
 use Rattle.batch.specs.Column.{column_values, column_type}
-use Rattle.batch.specs.BatchRows.{column_of, types_of, rows_of}
-use Rattle.batch.proofs.RowLaws.{transpose-part}
+use Rattle.batch.specs.BatchRows.{columns_of, column_of, types_of, rows_of}
+use Rattle.batch.proofs.RowLaws.{length-transpose, transpose-part}
 use Rattle.batch.proofs.JoinLaws.{length-column_of, length-joined, rows-joined}
 use Rattle.arrow_write.specs.declared.cursor.Part.{Part}
-use Rattle.arrow_write.specs.Cut.{rows_in, place_of_row, rows_at, IsPartOf, rows_of_part, Follow, AreRows, part_of}
+use Rattle.arrow_write.specs.Cut.{rows_in, place_of_row, rows_at, IsPartOf, IsWhole, rows_of_part, Follow, AreRows, part_of}
 
 -- the rows of the batch at a place
 pub rows_at-item : (batches : List Batch) (i : ℕ) (batch : Batch) → i < length batches → batch ≡ get_or batches i batch → rows_at batches i ≡ batch.rows
@@ -165,3 +165,23 @@ pub kinds-of-batches : (types : List Ty) (batches : List Batch) → All (λ batc
 kinds-of-batches types [] alike some = absurd (omega arith)
 kinds-of-batches types (batch ∷ batches) alike some =
     subst (λ ts. All (λ (ty : Ty). IsKind ty.kind) ts) (All-head (λ b. types_of b ≡ types) batch batches alike) (kinds-of-columns batch.columns.items)
+
+-- a part that is a whole batch has all that a list has for the batch
+pub Sized-rows : (batches : List Batch) → Sized rows_of batches
+Sized-rows batches = λ k d below. let batch = get_or batches k d in length-transpose Null batch.rows (columns_of batch)
+
+whole_rows : (batches : List Batch) (parts : List Part) (i : ℕ) (d : Batch) → IsWhole batches parts i → flat_map (part_of rows_of batches) parts ≡ rows_of (get_or batches i d)
+whole_rows batches [] i d whole = absurd (omega (arith, whole.alone))
+whole_rows batches (part ∷ next ∷ parts) i d whole = absurd (omega (arith, whole.alone))
+whole_rows batches (part ∷ []) i d whole =
+    let batch = get_or batches i d in
+    let rows = rows_of batch in
+    let here : get_or (map rows_of batches) i [] ≡ rows = get_or-map_within rows_of batches i d [] whole.exists in
+    let size : rows_at batches i ≡ length rows = get_or-map_within (λ b. b.rows) batches i d 0 whole.exists ∙ sym (length-transpose Null batch.rows (columns_of batch)) in
+    append-nil (part_of rows_of batches part) ∙ ap (λ k. slice_range (get_or (map rows_of batches) k []) part.from part.to) (whole.batch part) ∙ ap (λ xs. slice_range xs part.from part.to) here
+    ∙ ap (λ k. slice_range rows k part.to) (whole.from part) ∙ ap (λ k. slice_range rows 0 k) (whole.to part) ∙ take_all (rows_at batches i - 0) rows (omega (arith, size))
+
+pub rows-of-whole : (batches : List Batch) (parts : List Part) (place count i : ℕ) (batch : Batch) → All (IsPartOf batches) parts → AreRows batches place count parts → IsWhole batches parts i → batch ≡ get_or batches i batch
+    → rows_of batch ≡ take count (drop place (flat_map rows_of batches))
+rows-of-whole batches parts place count i batch lie rows whole here =
+    ap rows_of here ∙ sym (whole_rows batches parts i batch whole) ∙ parts-of-rows rows_of batches place count parts (Sized-rows batches) lie rows

@@ -30,6 +30,14 @@ pub record IsPartOf (batches : List Batch) (part : Part) : Type 0 where
   pub rising : part.from ≤ part.to
   pub within : part.to ≤ rows_at batches part.batch
 
+-- there is one part, and it is all of the batch at a place
+pub record IsWhole (batches : List Batch) (parts : List Part) (i : ℕ) : Type 0 where
+  pub exists : i < length batches
+  pub alone : length parts ≡ 1
+  pub batch : (d : Part) → (slice_index_or parts 0 d).batch ≡ i
+  pub from : (d : Part) → (slice_index_or parts 0 d).from ≡ 0
+  pub to : (d : Part) → (slice_index_or parts 0 d).to ≡ rows_at batches i
+
 -- how many rows the part has
 abbrev pub rows_of_part : Part → ℕ
 rows_of_part part = part.to - part.from

@@ -3,7 +3,6 @@ ghost use Rattle.std.specs.Prelude.{◌≡◌, ◌≤◌, ◌^◌, OnOk, OnErr, 
 ghost use Rattle.std.specs.List.{All, flat_map, sum_by};
 ghost use Rattle.world.specs.Counts.{HasCause};
 ghost use Rattle.world.specs.Files.{written, IsPartWritten};
-ghost use Rattle.sub_types.specs.Value.{Fits};
 ghost use Rattle.batch.specs.BatchRows.{types_of, rows_of};
 ghost use Rattle.arrow_meta.specs.File.{file_of};
 
@@ -19,6 +18,8 @@ use world::Folder;
 /// Writes the Arrow file of these names, types and rows under the name, in the place of what is there (Arrow columnar
 /// format, "IPC File Format"). The rows are those of the batches, one behind the other, and the file has them in batches
 /// of 1,024, the last shorter, wherever the input's batches end; where there are no rows, it has one batch of length 0.
+/// Offsets have four bytes, which hold them whole where the rows fit their types: a text or binary value has then at
+/// most 1,048,576 bytes.
 /// After an error the file is as before or a prefix of that file: `WriteFault` where a write of the folder failed, and
 /// `NoMemory` where no memory was found.
 pub fn write_file<F: Folder>(
@@ -33,7 +34,6 @@ pub fn write_file<F: Folder>(
     requires few { length names.now ≤ 1024 }
     requires short { sum_by length names.now ≤ 16777216 }
     requires alike { All (λ batch. types_of batch ≡ types.now) batches.now }
-    requires fit { All (Fits types.now) (flat_map rows_of batches.now) }
     requires few_rows { sum_by (λ batch. batch.rows) batches.now ≤ 2 ^ 36 }
     ensures ok { OnOk result (F.files folder.new ≡ written (F.files folder.old) name.now (file_of names.now types.now (flat_map rows_of batches.now))) }
     ensures err { OnErr result (IsPartWritten (F.files folder.old) (F.files folder.new) name.now (file_of names.now types.now (flat_map rows_of batches.now))) }

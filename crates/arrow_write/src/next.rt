@@ -1,11 +1,11 @@
 // The messages of the output batches, one after the other.
-ghost use Rattle.std.specs.Prelude.{◌≡◌, ◌+◌, ◌≤◌, IfOk, OnOk, take, drop, length};
+ghost use Rattle.std.specs.Prelude.{◌≡◌, ◌+◌, ◌≤◌, IfOk, OnOk, IfSome, take, drop, length};
 ghost use Rattle.std.specs.List.{All, flat_map};
 ghost use Rattle.batch.specs.BatchRows.{types_of, rows_of};
-ghost use Rattle.arrow_write.specs.Cut.{IsInside, rows_in, rows_before};
+ghost use Rattle.arrow_write.specs.Cut.{IsInside, IsPartOf, IsWhole, rows_in, rows_before};
 ghost use Rattle.arrow_write.specs.Progress.{IsMessage};
 
-use crate::cursor::Cursor;
+use crate::cursor::{Cursor, Part};
 use crate::cut::batch_of_parts;
 use crate::message::{Message, batch_message, empty_message};
 use batch::Batch;
@@ -34,6 +34,24 @@ pub(crate) fn next_message(
         return empty_message(alloc, types);
     }
     let parts = cursor.next_parts(alloc, batches, count)?;
+    if let Some(i) = whole_batch(batches, &parts) {
+        return batch_message(alloc, &batches[i]);
+    }
     let batch = batch_of_parts(alloc, types, batches, &parts, place, count)?;
     batch_message(alloc, &batch)
+}
+
+// The place of the batch that the parts are, whole and alone: it need not be copied.
+fn whole_batch(batches: &[Batch], parts: &[Part]) -> Option<usize>
+    requires { All (IsPartOf batches.now) parts.now }
+    ensures { IfSome result (IsWhole batches.now parts.now) }
+{
+    if parts.len() != 1 {
+        return None;
+    }
+    let part = parts[0];
+    if part.from != 0 || part.to != batches[part.batch].rows {
+        return None;
+    }
+    Some(part.batch)
 }

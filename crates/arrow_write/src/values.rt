@@ -58,8 +58,8 @@ fn put_texts(alloc: Global, body: &mut Body, column: &TextCol) -> Result<(), NoM
     body.put(column.bytes())
 }
 
-// Where each text begins and the last one ends, four bytes each: the texts of a batch have together less than
-// 2^32 bytes, so that the others are 0.
+// Where each text begins and the last one ends, as the low four bytes of each place: the others are 0, since the
+// texts of one record batch have at most 2^30 bytes where they fit their types.
 fn offset_bytes(alloc: Global, column: &TextCol) -> Result<Vec<u8>, NoMemory>
     ensures { IfOk result (λ bytes. bytes.items ≡ little_bytes 4 0 ++ text_ends 0 (slots [] column.now)) }
 {
