@@ -22,7 +22,7 @@ use Rattle.batch.specs.BatchRows.{columns_of, column_of, types_of, rows_of}
 use Rattle.batch.proofs.RowLaws.{length-transpose, transpose-part}
 use Rattle.batch.proofs.JoinLaws.{length-column_of, length-joined, rows-joined}
 use Rattle.arrow_write.specs.declared.cursor.Part.{Part}
-use Rattle.arrow_write.specs.Cut.{rows_in, place_of_row, rows_at, IsPartOf, IsWhole, rows_of_part, Follow, AreRows, part_of}
+use Rattle.arrow_write.specs.Cut.{rows_in, place_of_row, rows_at, IsPartOf, IsWhole, rows_of_part, Follow, AreRows, place_of_parts, part_of}
 
 -- the rows of the batch at a place
 pub rows_at-item : (batches : List Batch) (i : ℕ) (batch : Batch) → i < length batches → batch ≡ get_or batches i batch → rows_at batches i ≡ batch.rows
@@ -89,6 +89,11 @@ parts-of-all f batches place (part ∷ parts) sized lie follow =
 pub parts-of-rows : {X : Type 0} (f : Batch → List X) (batches : List Batch) (place count : ℕ) (parts : List Part) → Sized f batches → All (IsPartOf batches) parts → AreRows batches place count parts
     → flat_map (part_of f batches) parts ≡ take count (drop place (flat_map f batches))
 parts-of-rows f batches place count parts sized lie rows = parts-of-all f batches place parts sized lie rows.follow ∙ ap (λ n. take n (drop place (flat_map f batches))) rows.count_is
+
+-- parts with rows begin at the place of the first
+pub place_of_parts-follow : (batches : List Batch) (place count : ℕ) (parts : List Part) → AreRows batches place count parts → 0 < count → place_of_parts batches parts ≡ place
+place_of_parts-follow batches place count [] rows some = absurd (omega (arith, rows.count_is))
+place_of_parts-follow batches place count (part ∷ parts) rows some = rows.follow.0
 
 -- one part more
 pub Follow-push : (batches : List Batch) (place : ℕ) (parts : List Part) (part : Part) → Follow batches place parts → place_of_row batches part.batch part.from ≡ place + sum_by rows_of_part parts → Follow batches place (parts ++ part ∷ [])

@@ -47,6 +47,11 @@ abbrev pub Follow : List Batch → ℕ → List Part → Type 0
 Follow batches place [] = Unit {0}
 Follow batches place (part ∷ parts) = (place_of_row batches part.batch part.from ≡ place) × Follow batches (place + rows_of_part part) parts
 
+-- the place of the first part
+abbrev pub place_of_parts : List Batch → List Part → ℕ
+place_of_parts batches [] = 0
+place_of_parts batches (part ∷ parts) = place_of_row batches part.batch part.from
+
 -- the parts are so many rows from a place on
 pub record AreRows (batches : List Batch) (place count : ℕ) (parts : List Part) : Type 0 where
   pub follow : Follow batches place parts

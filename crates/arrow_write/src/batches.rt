@@ -63,23 +63,13 @@ pub(crate) fn append_batches<F: Folder>(
         blocks: Vec::new(alloc),
     };
     for k in 0..count {
-        let place = BATCH_ROWS * k;
-        let size = BATCH_ROWS.min(rows - place);
-        append_batch(
-            alloc,
-            folder,
-            name,
-            types,
-            batches,
-            &mut progress,
-            place,
-            size,
-        )?;
+        let size = BATCH_ROWS.min(rows - BATCH_ROWS * k);
+        append_batch(alloc, folder, name, types, batches, &mut progress, size)?;
     }
     Ok(progress.blocks)
 }
 
-// Appends the message of the next `count` rows, which begin at `place` of all rows.
+// Appends the message of the next `count` rows.
 fn append_batch<F: Folder>(
     alloc: Global,
     folder: &mut F,
@@ -87,25 +77,23 @@ fn append_batch<F: Folder>(
     types: &[Ty],
     batches: &[Batch],
     progress: &mut Progress,
-    place: u64,
     count: u64,
 ) -> Result<(), WriteError>
     requires has { Has (F.files folder.old) name.now }
     requires few { length types.now ≤ 1024 }
     requires alike { All (λ batch. types_of batch ≡ types.now) batches.now }
     requires inside { IsInside batches.now progress.old.cursor }
-    requires place { rows_before batches.now progress.old.cursor ≡ place }
-    requires enough { place + count ≤ rows_in batches.now }
-    ensures ok { OnOk result (F.files folder.new ≡ appended (F.files folder.old) name.now (batch_message types.now (take count (drop place (flat_map rows_of batches.now))))) }
-    ensures err { OnErr result (IsPartAppended (F.files folder.old) (F.files folder.new) name.now (batch_message types.now (take count (drop place (flat_map rows_of batches.now))))) }
-    ensures moved { OnOk result (rows_before batches.now progress.new.cursor ≡ place + count) }
+    requires enough { rows_before batches.now progress.old.cursor + count ≤ rows_in batches.now }
+    ensures ok { OnOk result (F.files folder.new ≡ appended (F.files folder.old) name.now (batch_message types.now (take count (drop (rows_before batches.now progress.old.cursor) (flat_map rows_of batches.now))))) }
+    ensures err { OnErr result (IsPartAppended (F.files folder.old) (F.files folder.new) name.now (batch_message types.now (take count (drop (rows_before batches.now progress.old.cursor) (flat_map rows_of batches.now))))) }
+    ensures moved { OnOk result (rows_before batches.now progress.new.cursor ≡ rows_before batches.now progress.old.cursor + count) }
     ensures inside { OnOk result (IsInside batches.now progress.new.cursor) }
-    ensures sends { OnOk result (Sends types.now (take count (drop place (flat_map rows_of batches.now))) progress.old progress.new) }
+    ensures sends { OnOk result (Sends types.now (take count (drop (rows_before batches.now progress.old.cursor) (flat_map rows_of batches.now))) progress.old progress.new) }
     ensures cause { HasCause WriteError.WriteFault (F.write_faults folder.old) (F.write_faults folder.new) result }
     ensures reads { F.reads folder.new ≡ F.reads folder.old }
     ensures read_faults { F.read_faults folder.new ≡ F.read_faults folder.old }
 {
-    let message = next_message(alloc, types, batches, &mut progress.cursor, place, count)?;
+    let message = next_message(alloc, types, batches, &mut progress.cursor, count)?;
     progress.blocks.push(Block {
         offset: progress.end.cast_signed(),
         meta_len: (message.meta_len + 8).cast_signed(),

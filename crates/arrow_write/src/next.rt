@@ -12,22 +12,20 @@ use batch::Batch;
 use std::alloc::Global;
 use sub_types::{NoMemory, Ty};
 
-// The message of the next `count` rows, which begin at `place` of all rows. The cursor stands behind them afterwards.
+// The message of the next `count` rows. The cursor stands behind them afterwards.
 pub(crate) fn next_message(
     alloc: Global,
     types: &[Ty],
     batches: &[Batch],
     cursor: &mut Cursor,
-    place: u64,
     count: u64,
 ) -> Result<Message, NoMemory>
     requires few { length types.now ≤ 1024 }
     requires alike { All (λ batch. types_of batch ≡ types.now) batches.now }
     requires inside { IsInside batches.now cursor.old }
-    requires place { rows_before batches.now cursor.old ≡ place }
-    requires enough { place + count ≤ rows_in batches.now }
-    ensures message { IfOk result (IsMessage types.now (take count (drop place (flat_map rows_of batches.now)))) }
-    ensures moved { OnOk result (rows_before batches.now cursor.new ≡ place + count) }
+    requires enough { rows_before batches.now cursor.old + count ≤ rows_in batches.now }
+    ensures message { IfOk result (IsMessage types.now (take count (drop (rows_before batches.now cursor.old) (flat_map rows_of batches.now)))) }
+    ensures moved { OnOk result (rows_before batches.now cursor.new ≡ rows_before batches.now cursor.old + count) }
     ensures inside { OnOk result (IsInside batches.now cursor.new) }
 {
     if count == 0 {
@@ -37,7 +35,7 @@ pub(crate) fn next_message(
     if let Some(i) = whole_batch(batches, &parts) {
         return batch_message(alloc, &batches[i]);
     }
-    let batch = batch_of_parts(alloc, types, batches, &parts, place, count)?;
+    let batch = batch_of_parts(alloc, types, batches, &parts, count)?;
     batch_message(alloc, &batch)
 }
 

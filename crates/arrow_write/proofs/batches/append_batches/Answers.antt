@@ -5,7 +5,7 @@ use Rattle.world.specs.Files.{appended, Has}
 use Rattle.batch.specs.BatchRows.{rows_of}
 use Rattle.arrow_meta.specs.File.{batches as cut, batch_message}
 use Rattle.arrow_meta.specs.Meta.{place_of}
-use Rattle.arrow_write.specs.Cut.{rows_in}
+use Rattle.arrow_write.specs.Cut.{rows_in, rows_before}
 use Rattle.arrow_write.specs.Pieces.{IsPartAppended}
 use Rattle.arrow_write.specs.Progress.{block_at}
 use Rattle.arrow_write.proofs.Parts.{at_err}
@@ -33,12 +33,14 @@ loop-k-preserved g c =
     let all = cut rows in
     let k = c.loop-k.k in
     let sent = take k all in
-    let next = take c.min-size.result (drop (1024 * k) rows) in
+    let place = rows_before c.args.batches.now c.loop-k.progress.cursor in
+    let next = take c.min-size.result (drop place rows) in
     let so_far = c.loop-k.invariant in
     let after = c.in_ok-append_batch.ensures in
     let total : length rows ≡ rows_in c.args.batches.now = length-all_rows c.args.batches.now in
     let below : k < length all = omega (arith, length-cut rows, total, c.row_count-rows.ensures, c.loop-k-test.true) in
-    let here : get_or all k [] ≡ next = next_rows rows k (1024 * k) c.min-size.result below refl (omega (arith, c.min-size.ensures, total, c.row_count-rows.ensures)) in
+    let place_is : place ≡ 1024 * k = omega (arith, c.loop-k.invariant.place, c.row_count-rows.ensures, c.loop-k-test.true) in
+    let here : get_or all k [] ≡ next = next_rows rows k place c.min-size.result below place_is (omega (arith, place_is, c.min-size.ensures, total, c.row_count-rows.ensures)) in
     let more : take (k + 1) all ≡ sent ++ next ∷ [] = take_more all k [] below ∙ ap (λ batch. sent ++ batch ∷ []) here in
     record {
       files = after.ok ∙ ap (λ files. appended files c.args.name.now (batch_message types next)) so_far.files
@@ -47,7 +49,7 @@ loop-k-preserved g c =
       has = subst (λ files. Has files c.args.name.now) (sym after.ok) (Has-appended (g.F.Folder.files c.loop-k.folder) c.args.name.now (batch_message types next));
       sent = subst (λ bs. Sent types bs c.args.start c.append_batch.new.progress) (sym more) (Sent-more types sent next c.args.start c.loop-k.progress c.append_batch.new.progress so_far.sent after.sends);
       many = omega (arith, length-map c.append_batch.new.progress.blocks.items place_of, ap length after.sends.blocks, length_push (map place_of c.loop-k.progress.blocks.items) (block_at c.loop-k.progress.end types next), length-map c.loop-k.progress.blocks.items place_of, so_far.many);
-      place = omega (arith, after.moved, c.min-size.ensures, c.row_count-rows.ensures);
+      place = omega (arith, after.moved, place_is, c.min-size.ensures, c.row_count-rows.ensures);
       inside = after.inside;
       never_falls = omega (arith, so_far.never_falls, after.cause.never_falls);
       reads = after.reads ∙ so_far.reads;
@@ -62,13 +64,15 @@ returns-in_err-append_batch-clause-err g c =
     let k = c.loop-k.k in
     let before = g.F.Folder.files c.args.folder.now in
     let now = g.F.Folder.files c.append_batch.new.folder in
-    let next = take c.min-size.result (drop (1024 * k) rows) in
+    let place = rows_before c.args.batches.now c.loop-k.progress.cursor in
+    let next = take c.min-size.result (drop place rows) in
     let front = flat_map (batch_message types) (take k all) in
     let rest = flat_map (batch_message types) (drop (k + 1) all) in
     let whole = flat_map (batch_message types) all in
     let total : length rows ≡ rows_in c.args.batches.now = length-all_rows c.args.batches.now in
     let below : k < length all = omega (arith, length-cut rows, total, c.row_count-rows.ensures, c.loop-k-test.true) in
-    let here : get_or all k [] ≡ next = next_rows rows k (1024 * k) c.min-size.result below refl (omega (arith, c.min-size.ensures, total, c.row_count-rows.ensures)) in
+    let place_is : place ≡ 1024 * k = omega (arith, c.loop-k.invariant.place, c.row_count-rows.ensures, c.loop-k-test.true) in
+    let here : get_or all k [] ≡ next = next_rows rows k place c.min-size.result below place_is (omega (arith, place_is, c.min-size.ensures, total, c.row_count-rows.ensures)) in
     at_err (IsPartAppended before now c.args.name.now whole) c.from_residual.result
     (part_of_whole before (g.F.Folder.files c.loop-k.folder) now c.args.name.now front (batch_message types next) rest whole c.loop-k.invariant.files
     (messages-split types all k below ∙ ap (λ batch. front ++ batch_message types batch ++ rest) here) c.in_err-append_batch.ensures.err)

@@ -1,4 +1,5 @@
 use Rattle.std.proofs.Common.{◌≡◌, length, arith}
+use Rattle.arrow_write.specs.Cut.{place_of_parts}
 use Rattle.arrow_write.proofs.CutLaws.{cut_at, CutColumns-more, CutColumns-sized, CutColumns-rows}
 use Rattle.arrow_write.proofs.cut.batch_of_parts.Goals as goal
 
@@ -9,9 +10,9 @@ loop-index-preserved c =
 pub invariant_of-result : goal.invariant_of-result
 invariant_of-result c =
     let done : c.loop-index.index ≡ length c.args.types.now = omega arith in
-    record { sized = CutColumns-sized c.args.types.now c.args.batches.now c.args.parts.now c.args.place c.args.count c.loop-index.columns.items c.loop-index.index done c.requires.alike c.requires.lie c.requires.rows c.requires.enough c.loop-index.invariant }
+    record { sized = CutColumns-sized c.args.types.now c.args.batches.now c.args.parts.now (place_of_parts c.args.batches.now c.args.parts.now) c.args.count c.loop-index.columns.items c.loop-index.index done c.requires.alike c.requires.lie c.requires.rows c.requires.enough c.loop-index.invariant }
 
 pub returns-clause-rows : goal.returns-clause-rows
 returns-clause-rows c =
     let done : c.loop-index.index ≡ length c.args.types.now = omega arith in
-    CutColumns-rows c.args.types.now c.args.batches.now c.args.parts.now c.args.place c.args.count c.loop-index.columns.items c.loop-index.index done c.requires.alike c.requires.lie c.requires.rows c.requires.enough c.loop-index.invariant
+    CutColumns-rows c.args.types.now c.args.batches.now c.args.parts.now (place_of_parts c.args.batches.now c.args.parts.now) c.args.count c.loop-index.columns.items c.loop-index.index done c.requires.alike c.requires.lie c.requires.rows c.requires.enough c.loop-index.invariant
