@@ -1,3 +1,11 @@
+pub mod BitBytes
+pub mod BodyLaws
 pub mod Columns
+pub mod CutLaws
+pub mod FileParts
+pub mod KindBuffers
+pub mod MessageLaws
 pub mod Parts
+pub mod Sending
+pub mod TextEnds
 pub mod Whole

@@ -14,14 +14,14 @@ pub after_append : (before mid now : Option Files) (name front piece passed : Li
 after_append before mid now name front piece passed same e f =
     f ∙ ap (λ files. appended files name passed) e ∙ appended-written before name front passed ∙ ap (λ p. written before name (front ++ p)) same
 
-prefix : (front piece rest : List ℕ) (k : ℕ) → front ++ take k piece ≡ take (length front + min k (length piece)) (front ++ piece ++ rest)
+pub prefix : (front piece rest : List ℕ) (k : ℕ) → front ++ take k piece ≡ take (length front + min k (length piece)) (front ++ piece ++ rest)
 prefix front piece rest k =
     let n = min k (length piece) in
     let few : n ≤ length piece = omega arith in
     sym (ap (take (length front + n)) (append_assoc front piece rest) ∙ take-append-add front (piece ++ rest) n
     ∙ ap (λ xs. front ++ xs) (take-append-le n piece rest few ∙ take_min k piece))
 
-front_only : (front piece rest : List ℕ) → front ≡ take (length front) (front ++ piece ++ rest)
+pub front_only : (front piece rest : List ℕ) → front ≡ take (length front) (front ++ piece ++ rest)
 front_only front piece rest = sym (ap (take (length front)) (append_assoc front piece rest) ∙ take-append_seam front (piece ++ rest))
 
 part : (before mid now : Option Files) (name front piece rest : List ℕ)
@@ -50,3 +50,7 @@ on_err P Q (Err e) f p = f p
 pub at_err : {T E : Type 0} (P : Type 0) (r : Result T E) → P → OnErr r P
 at_err P (Ok x) p = tt
 at_err P (Err e) p = p
+
+pub at_ok : {T E : Type 0} (P : Type 0) (r : Result T E) → P → OnOk r P
+at_ok P (Ok x) p = p
+at_ok P (Err e) p = tt

@@ -1,2 +1,6 @@
 pub mod Rows
 pub mod Pieces
+pub mod Stored
+pub mod Bodies
+pub mod Progress
+pub mod Cut

@@ -1,10 +1,22 @@
 //! Writes Arrow files (Arrow columnar format, "IPC File Format").
 #![tactic(auto)]
 
+mod batches;
+mod body;
+mod cursor;
+mod cut;
+mod encoding;
 mod error;
+mod file;
+mod frame;
+mod message;
+mod next;
+mod packing;
 mod pieces;
 mod put;
 mod rows;
+mod values;
 
 pub use error::WriteError;
+pub use file::write_file;
 pub use rows::write_rows;

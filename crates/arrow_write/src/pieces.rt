@@ -1,16 +1,10 @@
 // The bytes of the three pieces of a file: what stands before the record batch, its message, and the end.
-ghost use Rattle.std.specs.Prelude.{◌≡◌, ◌≤◌, ◌<◌, ◌^◌, ◌++◌, [], ◌∷◌, IfOk, OnOk, length, map, vec_len};
-ghost use Rattle.std.specs.List.{sum_by};
-ghost use Rattle.fb_bytes.specs.Layout.{buffer_of};
-ghost use Rattle.arrow_meta.specs.File.{file_head, framed, batch_metadata, batch_body};
-ghost use Rattle.arrow_meta.specs.Messages.{footer_laid};
-ghost use Rattle.arrow_meta.specs.Meta.{place_of};
+ghost use Rattle.std.specs.Prelude.{◌≡◌, ◌≤◌, ◌++◌, [], ◌∷◌, IfOk, length, map};
+ghost use Rattle.arrow_meta.specs.File.{batch_metadata, batch_body};
 ghost use Rattle.arrow_write.specs.Rows.{required_i64, i64_row, i64_file};
-ghost use Rattle.arrow_write.specs.Pieces.{ended};
 
-use arrow_meta::{
-    Block, Pairs, RecordMeta, write_footer, write_record_message, write_schema_message,
-};
+use crate::frame::{head_bytes, put_message, tail_bytes};
+use arrow_meta::{Block, Pairs, RecordMeta, write_record_message};
 use std::alloc::Global;
 use sub_types::{ByteList, Kind, NoMemory, Ty};
 
@@ -47,41 +41,12 @@ pub(crate) fn file_pieces(
         meta_len: metadata.len() as i32 + 8,
         body_len: body.len() as i64,
     };
-    let tail = tail_bytes(alloc, &names, &types, block)?;
+    let tail = tail_bytes(alloc, &names, &types, &[block])?;
     Ok(Pieces {
         head,
         message,
         tail,
     })
-}
-
-// A message: the mark, the size of its metadata, the metadata and the body.
-fn put_message(out: &mut Vec<u8>, metadata: &[u8], body: &[u8]) -> Result<(), NoMemory>
-    requires { length metadata.now < 2 ^ 32 }
-    ensures { OnOk result (out.new.items ≡ out.old.items ++ framed metadata.now body.now) }
-{
-    out.extend_from_slice(&[255; 4])?;
-    out.extend_from_slice(&(metadata.len() as u32).to_le_bytes())?;
-    out.extend_from_slice(metadata)?;
-    out.extend_from_slice(body)?;
-    Ok(())
-}
-
-// The magic with its padding, and the schema message.
-#[tactic(auto, unfolding(arrow_meta::specs::File::file_head))]
-fn head_bytes(alloc: Global, names: &[ByteList], types: &[Ty]) -> Result<Vec<u8>, NoMemory>
-    requires same_count { length names.now ≡ length types.now }
-    requires few { length names.now ≤ 1024 }
-    requires short { sum_by length names.now ≤ 16777216 }
-    ensures bytes { IfOk result (λ bytes. bytes.items ≡ file_head names.now types.now) }
-    ensures small { IfOk result (λ bytes. vec_len bytes < 2 ^ 32) }
-{
-    let metadata = write_schema_message(alloc, names, types)?;
-    let mut out = Vec::new(alloc);
-    out.extend_from_slice(b"ARROW1")?;
-    out.extend_from_slice(&[0; 2])?;
-    put_message(&mut out, &metadata, &[])?;
-    Ok(out)
 }
 
 // The metadata of the record batch of these rows.
@@ -107,27 +72,5 @@ fn body_bytes(alloc: Global, rows: &[i64]) -> Result<Vec<u8>, NoMemory>
     for row in rows {
         out.extend_from_slice(&row.to_le_bytes())?;
     }
-    Ok(out)
-}
-
-// The end mark, the footer with its one block, its size and the magic.
-fn tail_bytes(
-    alloc: Global,
-    names: &[ByteList],
-    types: &[Ty],
-    block: Block,
-) -> Result<Vec<u8>, NoMemory>
-    requires same_count { length names.now ≡ length types.now }
-    requires few { length names.now ≤ 1024 }
-    requires short { sum_by length names.now ≤ 16777216 }
-    ensures { IfOk result (λ bytes. bytes.items ≡ ended (buffer_of (footer_laid names.now types.now (place_of block ∷ [])))) }
-{
-    let footer = write_footer(alloc, names, types, &[block])?;
-    let mut out = Vec::new(alloc);
-    out.extend_from_slice(&[255; 4])?;
-    out.extend_from_slice(&[0; 4])?;
-    out.extend_from_slice(&footer)?;
-    out.extend_from_slice(&(footer.len() as u32).to_le_bytes())?;
-    out.extend_from_slice(b"ARROW1")?;
     Ok(out)
 }

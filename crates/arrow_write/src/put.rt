@@ -30,7 +30,7 @@ pub(crate) fn put_pieces<F: Folder>(
     append(alloc, folder, name, &pieces.tail)
 }
 
-fn create<F: Folder>(alloc: Global, folder: &mut F, name: &str) -> Result<(), WriteError>
+pub(crate) fn create<F: Folder>(alloc: Global, folder: &mut F, name: &str) -> Result<(), WriteError>
     ensures ok { OnOk result (F.files folder.new ≡ written (F.files folder.old) name.now []) }
     ensures err { OnErr result (IsPartCreated (F.files folder.old) (F.files folder.new) name.now) }
     ensures cause { HasCause WriteError.WriteFault (F.write_faults folder.old) (F.write_faults folder.new) result }
@@ -44,7 +44,7 @@ fn create<F: Folder>(alloc: Global, folder: &mut F, name: &str) -> Result<(), Wr
     }
 }
 
-fn append<F: Folder>(
+pub(crate) fn append<F: Folder>(
     alloc: Global,
     folder: &mut F,
     name: &str,

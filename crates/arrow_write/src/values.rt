@@ -1,0 +1,72 @@
+// The value buffers of a column (Arrow columnar format, fixed-size primitive and variable-size binary layouts).
+ghost use Rattle.std.specs.Prelude.{◌≡◌, ◌++◌, ◌∷◌, [], IfOk, OnOk};
+ghost use Rattle.std.specs.List.{flat_map, concat};
+ghost use Rattle.byteorder.specs.Endian.{little_bytes};
+ghost use Rattle.sub_types.specs.Slots.{slots};
+ghost use Rattle.arrow_meta.specs.Buffers.{text_ends};
+ghost use Rattle.arrow_write.specs.Bodies.{Puts};
+ghost use Rattle.arrow_write.specs.Stored.{stored_buffers};
+
+use crate::body::Body;
+use crate::packing::packed_bytes;
+use batch::ColumnData;
+use col_fixed::Native;
+use col_text::TextCol;
+use std::alloc::Global;
+use sub_types::NoMemory;
+
+// Adds the buffers of values, with zeros or nothing where there is none.
+pub(crate) fn put_values(
+    alloc: Global,
+    body: &mut Body,
+    values: &ColumnData,
+) -> Result<(), NoMemory>
+    ensures put { OnOk result (Puts body.old body.new (stored_buffers values.now)) }
+    ensures nodes { OnOk result (body.new.nodes.items ≡ body.old.nodes.items) }
+{
+    match values {
+        ColumnData::Bool(column) => body.put(&packed_bytes(alloc, column.values())?),
+        ColumnData::I8(column) => body.put(&number_bytes(alloc, column.values())?),
+        ColumnData::I16(column) => body.put(&number_bytes(alloc, column.values())?),
+        ColumnData::I32(column) => body.put(&number_bytes(alloc, column.values())?),
+        ColumnData::I64(column) => body.put(&number_bytes(alloc, column.values())?),
+        ColumnData::I128(column) => body.put(&number_bytes(alloc, column.values())?),
+        ColumnData::Bytes(column) => put_texts(alloc, body, column),
+    }
+}
+
+// The bytes of each number.
+fn number_bytes<T: Native>(alloc: Global, values: &[T]) -> Result<Vec<u8>, NoMemory>
+    ensures { IfOk result (λ bytes. bytes.items ≡ flat_map T.bytes_of values.now) }
+{
+    let mut word = vec![in alloc; 0; T::SIZE]?;
+    let mut bytes = Vec::new(alloc);
+    for value in values {
+        value.write_le(&mut word);
+        bytes.extend_from_slice(&word)?;
+    }
+    Ok(bytes)
+}
+
+// Adds the offsets and the bytes of texts or binaries.
+fn put_texts(alloc: Global, body: &mut Body, column: &TextCol) -> Result<(), NoMemory>
+    ensures put { OnOk result (Puts body.old body.new
+        ((little_bytes 4 0 ++ text_ends 0 (slots [] column.now)) ∷ concat (slots [] column.now) ∷ [])) }
+    ensures nodes { OnOk result (body.new.nodes.items ≡ body.old.nodes.items) }
+{
+    body.put(&offset_bytes(alloc, column)?)?;
+    body.put(column.bytes())
+}
+
+// Where each text begins and the last one ends, as the low four bytes of each place: the others are 0, since the
+// texts of one record batch have at most 2^30 bytes where they fit their types.
+fn offset_bytes(alloc: Global, column: &TextCol) -> Result<Vec<u8>, NoMemory>
+    ensures { IfOk result (λ bytes. bytes.items ≡ little_bytes 4 0 ++ text_ends 0 (slots [] column.now)) }
+{
+    let mut bytes = Vec::from_slice(alloc, &[0; 4])?;
+    for i in 0..column.len() {
+        let end = column.offset(i + 1);
+        bytes.extend_from_slice(&end.to_le_bytes()[..4])?;
+    }
+    Ok(bytes)
+}

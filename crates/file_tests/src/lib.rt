@@ -1,0 +1,5 @@
+//! Tests of Arrow files.
+#![tactic(auto)]
+
+#[cfg(test)]
+mod tests;
