@@ -1,0 +1,31 @@
+//! Plans as trees: the untyped tree of a plan's messages, and the typed tree of a checked plan.
+#![tactic(auto)]
+
+mod aggregate;
+mod argument;
+mod expr;
+mod literal;
+mod plan;
+mod raw_copied;
+mod raw_expr;
+mod raw_rel;
+mod read;
+mod rel;
+mod sub;
+mod typed_copied;
+mod types;
+
+pub use aggregate::{AggregateFunction, Grouping, Measure, SortField};
+pub use argument::{FunctionArgument, FunctionOption};
+pub use expr::{Expr, Func, Overflow};
+pub use literal::RawLiteral;
+pub use plan::{FunDecl, PlanTree, RootDecl, UriDecl};
+pub use raw_expr::{IfClause, IfValue, RawExpr, ReferenceSegment, StructField, Subquery};
+pub use raw_rel::{RawCount, RawOffset, RawRel, RelCommon};
+pub use read::{
+    ExprRow, FileItem, ItemPath, LiteralRow, LocalFiles, MaskExpression, MaskItem, MaskStruct,
+    NamedStruct, NamedTable, RawSource, VirtualTable,
+};
+pub use rel::{JoinKind, Op, Rel, SetMeasure, SetOp, SortKey, Source, Typed, TypedMeasure};
+pub use sub::{Hole, Holed, Sub, SubKind};
+pub use types::{RawType, StructType};
