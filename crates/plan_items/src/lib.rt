@@ -3,9 +3,9 @@
 #![tactic(auto)]
 
 mod boxed;
-mod copied;
+mod copy_in;
 mod items;
 
 pub use boxed::Boxed;
-pub use copied::Copied;
+pub use copy_in::CopyIn;
 pub use items::Items;

@@ -1,5 +1,5 @@
 use Rattle.std.proofs.Common.{◌≡◌, take}
-use Rattle.plan_items.proofs.copied.ItemsCopied.copied.Given as goal
+use Rattle.plan_items.proofs.copy_in.ItemsCopyIn.copy_in.Given as goal
 
 -- the first so many items are copied
 abbrev pub invariant-loop-item : goal.invariant-loop-item
