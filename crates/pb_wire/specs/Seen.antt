@@ -1,6 +1,5 @@
 -- What a reader of records gives, without references.
 use Rattle.std.specs.Prelude.{◌≡◌, ◌≢◌, ℕ, ◌+◌, List, [], Option, Some, None, Result, Ok, Err, drop}
-use Rattle.std.specs.Borrow.{Bor}
 use Rattle.pb_wire.specs.declared.record.Payload.{Payload}
 use Rattle.pb_wire.specs.declared.record.Payload.TheVariants as payloads
 use Rattle.pb_wire.specs.declared.record.Record.{Record}
