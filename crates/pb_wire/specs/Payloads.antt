@@ -1,6 +1,6 @@
 -- The payload rules of proto3, over the list of a message's records (Protocol Buffers encoding, "Optional and Repeated
 -- Elements", "Last One Wins", "Oneofs").
-use Rattle.std.specs.Prelude.{ℕ, zero, suc, ◌-◌, ◌%◌, ◌^◌, ℤ, List, [], ◌∷◌, Bool, false, pos, Option, Some, None, if◌then◌else◌, ◌==◌, not, map, filter, unwrap_or}
+use Rattle.std.specs.Prelude.{ℕ, zero, suc, ◌-◌, ◌%◌, ◌^◌, ℤ, List, [], ◌∷◌, Bool, false, pos, Option, Some, None, if◌then◌else◌, ◌==◌, ◌&&◌, not, map, filter, unwrap_or}
 use Rattle.std.specs.List.{filter_map, flat_map, concat, last_or, after_last}
 use Rattle.std.specs.Option.{option_map, option_and_then, option_map_or}
 use Rattle.std.specs.Int.{w32, w64, cast_signed}
@@ -97,18 +97,19 @@ joined (payload ∷ payloads) = Some (concat (payload ∷ payloads))
 abbrev pub merged_message : ℕ → List Field → Option (List ℕ)
 merged_message number fields = joined (blocks number fields)
 
--- a oneof's winner: its number, and its records since the last record of any other member
+-- a oneof's winner: its number, and the records from which it is read
 pub record Member : Type 0 where
   pub number : ℕ
   pub records : List Field
 
--- what was written of the last member since any other member
-abbrev pub won_by : List Field → Field → Member
-won_by members last = record { number = last.number; records = after_last (λ member. not (member.number == last.number)) members }
+-- a record of a member with another number
+abbrev pub is_other : (Field → Bool) → ℕ → Field → Bool
+is_other is_member number field = is_member field && not (field.number == number)
 
--- the last record among the members decides a oneof
+-- the last record among its members decides a oneof; the winner is read from the records since the last of any other member
 abbrev pub chosen_member : (Field → Bool) → List Field → Option Member
-chosen_member is_member fields = let members = filter is_member fields in option_map (won_by members) (last_or None members)
+chosen_member is_member fields =
+    option_map (λ last. record { number = last.number; records = after_last (is_other is_member last.number) fields }) (last_or None (filter is_member fields))
 
 -- A field's value where it isn't a member of a oneof: an absent number counts as 0, an absent truth value as false, absent
 -- bytes as empty.
