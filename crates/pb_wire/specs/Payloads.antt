@@ -1,7 +1,7 @@
 -- The payload rules of proto3, over the list of a message's records (Protocol Buffers encoding, "Optional and Repeated
 -- Elements", "Last One Wins", "Oneofs").
 use Rattle.std.specs.Prelude.{ℕ, zero, suc, ◌-◌, ◌%◌, ◌^◌, ℤ, List, [], ◌∷◌, Bool, false, pos, Option, Some, None, if◌then◌else◌, ◌==◌, ◌&&◌, not, map, filter, unwrap_or}
-use Rattle.std.specs.List.{filter_map, flat_map, concat, last_or, after_last}
+use Rattle.std.specs.List.{filter_map, flat_map, concat, last_or, list_any}
 use Rattle.std.specs.Option.{option_map, option_and_then, option_map_or}
 use Rattle.std.specs.Int.{w32, w64, cast_signed}
 use Rattle.pb_wire.specs.Varint.{varint_of}
@@ -102,6 +102,11 @@ pub record Member : Type 0 where
   pub number : ℕ
   pub records : List Field
 
+-- what stands behind the last record that passes the test, or all where none does
+abbrev pub behind_last : (Field → Bool) → List Field → List Field
+behind_last test [] = []
+behind_last test (field ∷ fields) = if list_any test (field ∷ fields) then behind_last test fields else field ∷ fields
+
 -- a record of a member with another number
 abbrev pub is_other : (Field → Bool) → ℕ → Field → Bool
 is_other is_member number field = is_member field && not (field.number == number)
@@ -109,7 +114,7 @@ is_other is_member number field = is_member field && not (field.number == number
 -- the last record among its members decides a oneof; the winner is read from the records since the last of any other member
 abbrev pub chosen_member : (Field → Bool) → List Field → Option Member
 chosen_member is_member fields =
-    option_map (λ last. record { number = last.number; records = after_last (is_other is_member last.number) fields }) (last_or None (filter is_member fields))
+    option_map (λ last. record { number = last.number; records = behind_last (is_other is_member last.number) fields }) (last_or None (filter is_member fields))
 
 -- A field's value where it isn't a member of a oneof: an absent number counts as 0, an absent truth value as false, absent
 -- bytes as empty.

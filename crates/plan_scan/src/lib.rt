@@ -1,0 +1,12 @@
+//! Which bytes of a plan are readable, with the first flaw of those that aren't, and the messages of a readable plan.
+#![tactic(auto)]
+
+mod flaw;
+mod oneof;
+mod shape;
+mod table;
+
+pub use flaw::Flaw;
+pub use oneof::OneOf;
+pub use shape::{Shape, Use};
+pub use table::use_of_field;
