@@ -30,7 +30,7 @@ pub scan-broken : (place : ℕ) (bytes : List ℕ) → bytes ≢ [] → stands b
 scan-broken place [] some none = absurd (some refl)
 scan-broken place (byte ∷ bytes) some none = at_record place byte bytes None none
 
-drop-front : (n byte : ℕ) (bytes : List ℕ) → 0 < n → drop n (byte ∷ bytes) ≡ drop (n - 1) bytes
+pub drop-front : (n byte : ℕ) (bytes : List ℕ) → 0 < n → drop n (byte ∷ bytes) ≡ drop (n - 1) bytes
 drop-front zero byte bytes h = absurd (omega arith)
 drop-front (suc n) byte bytes h = let less : n ≡ suc n - 1 = omega arith in ap (λ k. drop k bytes) less
 

@@ -1,6 +1,6 @@
 -- The payload rules of proto3, over the list of a message's records (Protocol Buffers encoding, "Optional and Repeated
 -- Elements", "Last One Wins", "Oneofs").
-use Rattle.std.specs.Prelude.{ℕ, zero, suc, ◌-◌, ◌%◌, ◌^◌, ℤ, List, [], ◌∷◌, Bool, false, pos, Option, Some, None, if◌then◌else◌, ◌==◌, ◌&&◌, not, map, filter, unwrap_or}
+use Rattle.std.specs.Prelude.{ℕ, zero, suc, ◌-◌, ◌%◌, ◌^◌, ℤ, List, [], ◌∷◌, Bool, false, pos, Option, Some, None, if◌then◌else◌, ◌==◌, ◌&&◌, not, map, filter, unwrap_or, is_none}
 use Rattle.std.specs.List.{filter_map, flat_map, concat, last_or, list_any}
 use Rattle.std.specs.Option.{option_map, option_and_then, option_map_or}
 use Rattle.std.specs.Int.{w32, w64, cast_signed}
@@ -18,6 +18,10 @@ field_of placed = record { number = placed.entry.number; content = placed.entry.
 -- the records of a message without their places
 unfoldable pub fields_of : List ℕ → List Field
 fields_of bytes = map field_of (records_of bytes).records
+
+-- the records fill the bytes of a message
+unfoldable pub is_whole : List ℕ → Bool
+is_whole bytes = is_none (records_of bytes).broken
 
 -- what a record gives a field of varints; one of another field or wire type gives nothing
 abbrev pub varint_in : ℕ → Field → Option ℕ
