@@ -1,5 +1,5 @@
 -- What a reader of records gives, without references.
-use Rattle.std.specs.Prelude.{◌≡◌, ◌≢◌, ℕ, ◌+◌, List, [], ◌∷◌, true, false, length, Option, Some, None, Result, Ok, Err, drop}
+use Rattle.std.specs.Prelude.{◌≡◌, ◌≢◌, ℕ, ◌+◌, ◌-◌, ◌≤◌, List, [], ◌∷◌, true, false, length, Option, Some, None, Result, Ok, Err, drop}
 use Rattle.pb_wire.specs.declared.record.Payload.{Payload}
 use Rattle.pb_wire.specs.declared.record.Payload.TheVariants as payloads
 use Rattle.pb_wire.specs.declared.record.Record.{Record}
@@ -38,6 +38,11 @@ abbrev pub IsFirst : Rest → Rest → Option (Result Record ℕ) → Type 0
 IsFirst old new None = scan_of old ≡ record { records = []; broken = None }
 IsFirst old new (Some (Err place)) = scan_of old ≡ record { records = []; broken = Some place }
 IsFirst old new (Some (Ok found)) = (size : ℕ) × (scan_of old ≡ behind_record found.place (entry_of found size) (scan_of new))
+
+-- the record is the first of those that were left, and takes the bytes up to the place that was come to
+pub record IsBehind (found : Record) (old new : Rest) : Type 0 where
+  pub before : found.place ≤ new.place
+  pub first : scan_of old ≡ behind_record found.place (entry_of found (new.place - found.place)) (scan_of new)
 
 -- a record without its place
 abbrev pub field_seen : Record → Field

@@ -29,7 +29,7 @@ impl<'a> Model for Fields<'a> {
 
 impl<'a> Fields<'a> {
     ghost use Rattle.std.specs.Prelude.{◌≡◌, ◌<◌, ◌≤◌, ◌+◌, length, IfSome, IfOk, OnOk};
-    ghost use Rattle.pb_wire.specs.Seen.{IsNext, IsFirst, IsFirstField, block_len};
+    ghost use Rattle.pb_wire.specs.Seen.{IsNext, IsFirst, IsFirstField, IsBehind, block_len};
 
     /// The records of a message, from the first on.
     pub fn new(bytes: &'a [u8]) -> Fields<'a>
@@ -54,12 +54,15 @@ impl<'a> Fields<'a> {
     }
 
     /// The next record; `Err` with the place where no record stands, and then always the same; `None` at the end.
-    #[tactic(auto, using(crate::proofs::ScanLaws::first_of_next, crate::proofs::FieldLaws::first_field_of_next))]
+    #[tactic(auto, using(crate::proofs::ScanLaws::first_of_next, crate::proofs::FieldLaws::first_field_of_next, crate::proofs::ScanLaws::behind_of_next))]
     pub fn next(&mut self) -> Option<Result<Record<'a>, usize>>
         ensures next { IsNext self.old self.new result }
         ensures first { IsFirst self.old self.new result }
         ensures field { IsFirstField self.old self.new result }
         ensures moved { IfSome result (λ next. OnOk next (length self.new.bytes < length self.old.bytes)) }
+
+        // A record takes the bytes up to the place that the reader has come to.
+        ensures size { IfSome result (λ next. IfOk next (λ found. IsBehind found self.old self.new)) }
 
         // A payload lies before the place that the reader has come to, which never leaves the bytes.
         ensures payload { IfSome result (λ next. IfOk next (λ found. block_len found.payload ≤ self.new.place)) }

@@ -1,3 +1,4 @@
 pub mod Table
 pub mod Flaw
 pub mod Member
+pub mod Seen

@@ -3,10 +3,12 @@
 
 mod flaw;
 mod oneof;
+mod scan;
 mod shape;
 mod table;
 
 pub use flaw::Flaw;
 pub use oneof::OneOf;
+pub use scan::flaw_of;
 pub use shape::{Shape, Use};
 pub use table::use_of_field;
