@@ -1,1 +1,3 @@
 pub mod FlawLaws
+pub mod ReadableLaws
+pub mod PieceLaws

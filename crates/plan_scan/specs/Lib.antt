@@ -2,3 +2,5 @@ pub mod Table
 pub mod Flaw
 pub mod Member
 pub mod Seen
+pub mod Scanned
+pub mod Pieces

@@ -1,8 +1,10 @@
 //! Which bytes of a plan are readable, with the first flaw of those that aren't, and the messages of a readable plan.
 #![tactic(auto)]
 
+mod blocks;
 mod flaw;
 mod oneof;
+mod records;
 mod scan;
 mod shape;
 mod table;
