@@ -1,5 +1,5 @@
 -- Messages in pieces: which are readable, and what their records hold.
-use Rattle.std.proofs.Common.{◌≡◌, ◌∙◌, sym, ap, refl, subst, ℕ, zero, suc, List, [], ◌∷◌, ◌++◌, Bool, true, false, cond, nat_eq, Option, Some, None, ◌&&◌}
+use Rattle.std.proofs.Common.{◌≡◌, ◌∙◌, sym, ap, refl, subst, ℕ, zero, suc, List, [], ◌∷◌, ◌++◌, Bool, true, false, cond, nat_eq, ◌<◌, Option, Some, None, ◌&&◌, arith}
 use Rattle.std.specs.List.{list_all, list_any, cons_option, concat, last_or}
 use Rattle.std.proofs.lemmas.Bool.{and_parts, and_from, eqb-true}
 use Rattle.std.proofs.lemmas.List.Folds.{list_all-append}
@@ -8,8 +8,8 @@ use Rattle.pb_wire.specs.Payloads.{Field, fields_of, is_whole, block_in, blocks,
 use Rattle.pb_wire.proofs.FieldLaws.{joined, none_left}
 use Rattle.plan_scan.specs.declared.shape.Shape.{Shape}
 use Rattle.plan_scan.specs.declared.shape.Use.{Use}
-use Rattle.plan_scan.specs.Table.{use_of}
-use Rattle.plan_scan.specs.Scanned.{block_well, field_well, is_readable}
+use Rattle.plan_scan.specs.Table.{use_of, HoldsMessage}
+use Rattle.plan_scan.specs.Scanned.{Scanned, block_well, field_well, is_readable}
 
 -- the records of a message have no flaw
 abbrev pub all_well : ℕ → Shape → List Field → Bool
@@ -104,3 +104,23 @@ first_of_pieces old new later field whole (first, same) =
     (joined old later whole).fields
     ∙ ap (λ fields. fields ++ fields_of later) first
     ∙ ap (λ fields. field ∷ fields) (sym (joined new later (sym same ∙ whole)).fields)
+
+-- the messages of a field of a readable message are readable one level further down
+pub children_well : (below : ℕ) (shape inner : Shape) (number : ℕ) (bytes : List ℕ) → IsWell below shape bytes → HoldsMessage shape number inner → list_all (is_readable below inner) (blocks number (fields_of bytes)) ≡ true
+children_well below shape inner number bytes w holds = blocks_well (is_readable below) shape number _ holds (fields_of bytes) w.fields
+
+-- where there is such a message a level is left
+pub level_left : (below : ℕ) (shape : Shape) (piece : List ℕ) (pieces : List (List ℕ)) → list_all (is_readable below shape) (piece ∷ pieces) ≡ true → 0 < below
+unfolding is_readable
+level_left zero shape piece pieces e = cc
+level_left (suc below) shape piece pieces e = omega arith
+
+-- a message as contracts see it is readable
+abbrev pub IsReadable : Scanned → Type 0
+IsReadable message = IsWell message.below message.shape message.bytes
+
+pub readable_message : (shape : Shape) (below : ℕ) (pieces : List (List ℕ)) (message : Scanned) → ◌≡◌ {A = Scanned} (record { shape = shape; below = below; bytes = concat pieces }) message → list_all (is_readable (suc below) shape) pieces ≡ true → IsReadable message
+readable_message shape below pieces message e all = subst IsReadable e (pieces_well below shape pieces all)
+
+pub readable_children : (message : Scanned) (number : ℕ) (inner : Shape) (pieces : List (List ℕ)) → IsReadable message → HoldsMessage message.shape number inner → pieces ≡ blocks number (fields_of message.bytes) → list_all (is_readable message.below inner) pieces ≡ true
+readable_children message number inner pieces w holds e = ap (list_all (is_readable message.below inner)) e ∙ children_well message.below message.shape inner number message.bytes w holds

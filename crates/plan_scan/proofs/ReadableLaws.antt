@@ -9,12 +9,13 @@ use Rattle.pb_wire.specs.Records.{Content, Varint, Eight, Bytes, Four, Entry, Pl
 use Rattle.pb_wire.specs.Payloads.{Field, field_of, fields_of, is_whole, packed_numbers, block_in, blocks}
 use Rattle.pb_wire.proofs.FieldLaws.{joined}
 use Rattle.plan_scan.specs.declared.shape.Shape.{Shape}
+use Rattle.plan_scan.specs.declared.shape.Shape.TheVariants.{Plan}
 use Rattle.plan_scan.specs.declared.shape.Use.{Use}
 use Rattle.plan_scan.specs.declared.shape.Use.TheVariants as uses
 use Rattle.plan_scan.specs.declared.flaw.Flaw.{Flaw}
 use Rattle.plan_scan.specs.declared.flaw.Flaw.TheVariants.{Unreadable, TooDeep}
 use Rattle.plan_scan.specs.Table.{use_of}
-use Rattle.plan_scan.specs.Flaw.{MessageFlaw, message_flaw, block_flaw, record_flaw, first_flaw, unless}
+use Rattle.plan_scan.specs.Flaw.{MessageFlaw, message_flaw, block_flaw, record_flaw, first_flaw, unless, flaw}
 use Rattle.plan_scan.specs.Scanned.{block_well, field_well, is_readable}
 
 -- the message has no flaw wherever it stands
@@ -63,3 +64,8 @@ readable zero shape place start bytes e = cc
 readable (suc levels) shape place start bytes e =
     let all = no_flaw_along (message_flaw levels) (is_readable levels) (readable levels) shape start (records_of bytes).records (records_of bytes).broken e in
     and_from _ _ all.0 all.1
+
+-- a plan without a flaw is readable
+pub plan_readable : (bytes : List ℕ) → flaw bytes ≡ None → is_readable 100 Plan bytes ≡ true
+unfolding flaw
+plan_readable bytes e = readable 100 Plan 0 0 bytes e

@@ -1,5 +1,5 @@
 -- The messages of a plan and their fields (Substrait's plan.proto, algebra.proto, type.proto and function.proto).
-use Rattle.std.specs.Prelude.{ℕ, List, [], ◌∷◌, if◌then◌else◌, ◌==◌}
+use Rattle.std.specs.Prelude.{◌≡◌, ℕ, List, [], ◌∷◌, if◌then◌else◌, ◌==◌}
 use Rattle.plan_scan.specs.declared.shape.Shape.{Shape}
 use Rattle.plan_scan.specs.declared.shape.Shape.TheVariants.{Empty, Plan, PlanRel, RelRoot, ExtensionUri, ExtensionDeclaration, ExtensionFunction, Rel, RelCommon, Emit, ReadRel, NamedStruct, StructType, NamedTable, VirtualTable, LiteralRow, ExpressionRow, LocalFiles, FileItem, FilterRel, FetchRel, AggregateRel, Grouping, Measure, AggregateFunction, SortRel, SortField, JoinRel, ProjectRel, SetRel, CrossRel, MaskExpression, StructSelect, StructItem, Expression, ScalarFunction, FunctionArgument, FunctionOption, FieldReference, ReferenceSegment, StructField, IfThen, IfClause, SwitchExpression, IfValue, SingularOrList, Cast, Literal, DecimalLiteral, DataType, PlainType, DecimalType, Subquery, ScalarSubquery, InPredicate, SetPredicate}
 use Rattle.plan_scan.specs.declared.shape.Use.{Use}
@@ -72,3 +72,10 @@ look_up number (field ∷ fields) = if number == field.0 then field.1 else look_
 -- what the field of this number holds in a message
 abbrev pub use_of : Shape → ℕ → Use
 use_of shape number = look_up number (named shape)
+
+-- the field of this number holds messages of a shape, or texts
+abbrev pub HoldsMessage : Shape → ℕ → Shape → Type 0
+HoldsMessage shape number inner = use_of shape number ≡ Message inner
+
+abbrev pub HoldsText : Shape → ℕ → Type 0
+HoldsText shape number = use_of shape number ≡ Text

@@ -3,6 +3,7 @@
 
 mod blocks;
 mod flaw;
+mod message;
 mod oneof;
 mod records;
 mod scan;
@@ -10,6 +11,7 @@ mod shape;
 mod table;
 
 pub use flaw::Flaw;
+pub use message::Message;
 pub use oneof::OneOf;
 pub use scan::flaw_of;
 pub use shape::{Shape, Use};

@@ -11,7 +11,7 @@ use crate::table::use_of_field;
 use pb_wire::{Fields, Packed, Payload, Record};
 
 /// The most levels of messages in a plan, the plan's own among them.
-const LEVELS: u32 = 100;
+pub(crate) const LEVELS: u32 = 100;
 
 /// The first flaw of a plan in the order of its bytes, or `None` where it is readable.
 #[tactic(auto, unfolding(crate::specs::Flaw::flaw))]
