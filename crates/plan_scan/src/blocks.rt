@@ -34,7 +34,7 @@ impl<'m, 'a> Blocks<'m, 'a> {
 
     /// The next payload, or `None` at the end.
     pub(crate) fn next(&mut self) -> Option<&'a [u8]>
-        ensures blocks { self.old ≡ option_to_list (option_copied result) ++ self.new }
+        ensures given { self.old ≡ option_to_list (option_copied result) ++ self.new }
         ensures none { IsNone result → self.old ≡ [] }
     {
         while let Some(found) = self.records.next() {

@@ -2,6 +2,7 @@
 #![tactic(auto)]
 
 mod blocks;
+mod children;
 mod flaw;
 mod message;
 mod oneof;
@@ -10,6 +11,7 @@ mod scan;
 mod shape;
 mod table;
 
+pub use children::Children;
 pub use flaw::Flaw;
 pub use message::Message;
 pub use oneof::OneOf;
