@@ -1,7 +1,7 @@
 -- The first flaw of a message, record by record.
 use Rattle.std.proofs.Common.{◌≡◌, ◌∙◌, sym, ap, refl, ℕ, zero, suc, ◌+◌, ◌-◌, ◌<◌, List, [], Option, Some, None, is_some, true, false, arith}
 use Rattle.std.specs.Option.{option_or}
-use Rattle.pb_wire.specs.Records.{Scan, Placed, records_of, behind_record}
+use Rattle.pb_wire.specs.Records.{Scan, records_of}
 use Rattle.pb_wire.specs.Seen.{Rest, IsBehind, scan_of, entry_of}
 use Rattle.pb_wire.specs.declared.record.Payload.{Payload}
 use Rattle.pb_wire.specs.declared.record.Payload.TheVariants as payloads

@@ -1,14 +1,16 @@
 -- Messages in pieces: which are readable, and what their records hold.
-use Rattle.std.proofs.Common.{◌≡◌, ◌∙◌, sym, ap, refl, subst, ℕ, zero, suc, List, [], ◌∷◌, ◌++◌, Bool, true, false, cond, nat_eq, ◌<◌, Option, Some, None, ◌&&◌, arith}
+use Rattle.std.proofs.Common.{◌≡◌, ◌∙◌, sym, ap, refl, subst, ℕ, zero, suc, List, [], ◌∷◌, ◌++◌, Bool, true, false, cond, nat_eq, ◌<◌, Option, Some, None, unwrap_or, arith}
 use Rattle.std.specs.List.{list_all, list_any, cons_option, concat, last_or}
+use Rattle.std.specs.Str.{is_utf8}
+use Rattle.std.proofs.lemmas.Str.{is_utf8-from_IsUtf8, IsUtf8-nil}
 use Rattle.std.proofs.lemmas.Bool.{and_parts, and_from, eqb-true}
 use Rattle.std.proofs.lemmas.List.Folds.{list_all-append}
 use Rattle.pb_wire.specs.Records.{Content, Varint, Eight, Bytes, Four}
-use Rattle.pb_wire.specs.Payloads.{Field, fields_of, is_whole, block_in, blocks, behind_last}
+use Rattle.pb_wire.specs.Payloads.{Field, fields_of, is_whole, block_in, blocks, behind_last, bytes_field}
 use Rattle.pb_wire.proofs.FieldLaws.{joined, none_left}
 use Rattle.plan_scan.specs.declared.shape.Shape.{Shape}
 use Rattle.plan_scan.specs.declared.shape.Use.{Use}
-use Rattle.plan_scan.specs.Table.{use_of, HoldsMessage}
+use Rattle.plan_scan.specs.Table.{use_of, HoldsMessage, HoldsText}
 use Rattle.plan_scan.specs.Scanned.{Scanned, block_well, field_well, is_readable}
 
 -- the records of a message have no flaw
@@ -53,7 +55,7 @@ well_pieces levels shape (piece ∷ pieces) whole fields =
     let wholes = and_parts (is_whole piece) (list_all is_whole pieces) whole in
     let both = joined piece (concat pieces) wholes.0 in
     let parts = and_parts (all_well levels shape (fields_of piece)) (all_well levels shape (fields_of (concat pieces)))
-        (sym (ap (all_well levels shape) both.fields ∙ list_all-append (field_well (is_readable levels) shape) (fields_of piece) (fields_of (concat pieces))) ∙ fields) in
+    (sym (ap (all_well levels shape) both.fields ∙ list_all-append (field_well (is_readable levels) shape) (fields_of piece) (fields_of (concat pieces))) ∙ fields) in
     and_from _ _ (from_well levels shape piece (record { whole = wholes.0; fields = parts.0 })) (well_pieces levels shape pieces wholes.1 parts.1)
 
 -- pieces whose records are read one after the other
@@ -69,8 +71,8 @@ content_blocks message shape number holds e here (Four value) rest well all = al
 content_blocks message shape number holds e here (Bytes bytes) rest well all =
     (elim (nat_eq here number) as (λ b. nat_eq here number ≡ b → list_all (block_well message holds) (cons_option (cond b (Some bytes) None) rest) ≡ true) [
       | true ↦ λ same.
-        let use_is : use_of shape here ≡ holds = ap (use_of shape) (eqb-true here number same) ∙ e in
-        and_from _ _ (ap (λ h. block_well message h bytes) (sym use_is) ∙ well) all
+          let use_is : use_of shape here ≡ holds = ap (use_of shape) (eqb-true here number same) ∙ e in
+          and_from _ _ (ap (λ h. block_well message h bytes) (sym use_is) ∙ well) all
       | false ↦ λ other. all
     ]) refl
 
@@ -124,3 +126,13 @@ readable_message shape below pieces message e all = subst IsReadable e (pieces_w
 
 pub readable_children : (message : Scanned) (number : ℕ) (inner : Shape) (pieces : List (List ℕ)) → IsReadable message → HoldsMessage message.shape number inner → pieces ≡ blocks number (fields_of message.bytes) → list_all (is_readable message.below inner) pieces ≡ true
 readable_children message number inner pieces w holds e = ap (list_all (is_readable message.below inner)) e ∙ children_well message.below message.shape inner number message.bytes w holds
+
+-- the texts of a readable message are UTF-8
+pub text_well : (message : Scanned) (number : ℕ) → IsReadable message → HoldsText message.shape number → is_utf8 (bytes_field number (fields_of message.bytes)) ≡ true
+text_well message number w holds =
+    let texts : List (List ℕ) = blocks number (fields_of message.bytes) in
+    let all : list_all is_utf8 texts ≡ true = blocks_well (is_readable message.below) message.shape number _ holds (fields_of message.bytes) w.fields in
+    (elim (last_or None texts) as (λ last. last_or None texts ≡ last → is_utf8 (unwrap_or last []) ≡ true) [
+      | None ↦ λ none. is_utf8-from_IsUtf8 [] IsUtf8-nil
+      | Some text ↦ λ some. last_well is_utf8 texts None text all (λ y e. cc) some
+    ]) refl

@@ -1,19 +1,15 @@
 -- What a message without a flaw gives: of its records, of its pieces, and of the messages in it.
-use Rattle.std.proofs.Common.{◌≡◌, ◌∙◌, sym, ap, refl, ℕ, zero, suc, ◌+◌, ◌-◌, ◌<◌, List, [], ◌∷◌, ◌++◌, map, Bool, true, false, Option, Some, None, is_some, is_none, arith, ◌&&◌}
-use Rattle.std.specs.List.{list_all, filter_map, cons_option, concat}
-use Rattle.std.specs.Option.{option_or, option_map}
+use Rattle.std.proofs.Common.{◌≡◌, refl, ℕ, zero, suc, List, [], ◌∷◌, map, Bool, true, false, Option, Some, None, is_some, is_none}
+use Rattle.std.specs.List.{list_all}
+use Rattle.std.specs.Option.{option_or}
 use Rattle.std.specs.Str.{is_utf8}
-use Rattle.std.proofs.lemmas.Bool.{and_parts, and_from}
-use Rattle.std.proofs.lemmas.List.Folds.{list_all-append}
-use Rattle.pb_wire.specs.Records.{Content, Varint, Eight, Bytes, Four, Entry, Placed, records_of}
-use Rattle.pb_wire.specs.Payloads.{Field, field_of, fields_of, is_whole, packed_numbers, block_in, blocks}
-use Rattle.pb_wire.proofs.FieldLaws.{joined}
+use Rattle.std.proofs.lemmas.Bool.{and_from}
+use Rattle.pb_wire.specs.Records.{Content, Varint, Eight, Bytes, Four, Placed, records_of}
+use Rattle.pb_wire.specs.Payloads.{field_of, fields_of, is_whole, packed_numbers}
 use Rattle.plan_scan.specs.declared.shape.Shape.{Shape}
 use Rattle.plan_scan.specs.declared.shape.Shape.TheVariants.{Plan}
 use Rattle.plan_scan.specs.declared.shape.Use.{Use}
 use Rattle.plan_scan.specs.declared.shape.Use.TheVariants as uses
-use Rattle.plan_scan.specs.declared.flaw.Flaw.{Flaw}
-use Rattle.plan_scan.specs.declared.flaw.Flaw.TheVariants.{Unreadable, TooDeep}
 use Rattle.plan_scan.specs.Table.{use_of}
 use Rattle.plan_scan.specs.Flaw.{MessageFlaw, message_flaw, block_flaw, record_flaw, first_flaw, unless, flaw}
 use Rattle.plan_scan.specs.Scanned.{block_well, field_well, is_readable}

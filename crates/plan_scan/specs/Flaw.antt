@@ -2,7 +2,7 @@
 use Rattle.std.specs.Prelude.{ℕ, zero, suc, ◌+◌, ◌-◌, List, [], ◌∷◌, Bool, Option, Some, None, if◌then◌else◌, length, is_some}
 use Rattle.std.specs.Option.{option_map, option_or}
 use Rattle.std.specs.Str.{is_utf8}
-use Rattle.pb_wire.specs.Records.{Content, Varint, Eight, Bytes, Four, Placed, records_of}
+use Rattle.pb_wire.specs.Records.{Varint, Eight, Bytes, Four, Placed, records_of}
 use Rattle.pb_wire.specs.Payloads.{packed_numbers}
 use Rattle.plan_scan.specs.declared.shape.Shape.{Shape}
 use Rattle.plan_scan.specs.declared.shape.Shape.TheVariants.{Plan}

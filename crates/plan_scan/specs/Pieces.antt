@@ -1,7 +1,7 @@
 -- The pieces of a message, which its records are read from one after the other.
-use Rattle.std.specs.Prelude.{◌≡◌, ◌≤◌, ℕ, List, [], ◌∷◌, ◌++◌, true, map, drop, length, Option, Some, None}
+use Rattle.std.specs.Prelude.{◌≡◌, ℕ, List, [], ◌∷◌, true, map, drop, Option, Some, None}
 use Rattle.std.specs.Borrow.{Bor}
-use Rattle.std.specs.List.{concat, list_all}
+use Rattle.std.specs.List.{list_all}
 use Rattle.pb_wire.specs.declared.record.Record.{Record}
 use Rattle.pb_wire.specs.Seen.{field_seen}
 use Rattle.pb_wire.specs.Payloads.{fields_of, is_whole}

@@ -2,7 +2,7 @@
 use Rattle.std.specs.Prelude.{◌≡◌, ℕ, zero, suc, ◌+◌, ◌&&◌, List, [], ◌∷◌, Bool, true, false, is_some, Option, Some, None}
 use Rattle.std.specs.List.{list_all}
 use Rattle.std.specs.Str.{is_utf8}
-use Rattle.pb_wire.specs.Records.{Content, Varint, Eight, Bytes, Four}
+use Rattle.pb_wire.specs.Records.{Varint, Eight, Bytes, Four}
 use Rattle.pb_wire.specs.Payloads.{Field, fields_of, is_whole, packed_numbers}
 use Rattle.plan_scan.specs.declared.shape.Shape.{Shape}
 use Rattle.plan_scan.specs.declared.shape.Use.{Use}

@@ -50,11 +50,6 @@ impl<'m, 'a> Children<'m, 'a> {
         ensures { IsNextChild self.old self.new result }
     {
         let block = self.blocks.next()?;
-        Some(Message::of_pieces(
-            self.shape,
-            self.above - 1,
-            block,
-            Vec::new(alloc),
-        ))
+        Some(Message::of_pieces(self.shape, self.above - 1, block, Vec::new(alloc)))
     }
 }

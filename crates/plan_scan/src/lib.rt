@@ -10,6 +10,7 @@ mod records;
 mod scan;
 mod shape;
 mod table;
+mod values;
 
 pub use children::Children;
 pub use flaw::Flaw;

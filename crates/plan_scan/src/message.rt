@@ -16,7 +16,7 @@ use sub_types::NoMemory;
 /// other, which aren't copied.
 #[derive(Drop)]
 pub struct Message<'a> {
-    shape: Shape,
+    pub(crate) shape: Shape,
     below: u32,
     first: &'a [u8],
     more: Vec<&'a [u8]>,
@@ -133,11 +133,7 @@ impl<'a> Message<'a> {
 
     /// The winner of a oneof, or `None` where it has no member: its number, and a message of the same shape whose records
     /// are those since the last record of any other member. The winner is the field of that number there.
-    pub fn oneof(
-        &self,
-        alloc: Global,
-        oneof: OneOf,
-    ) -> Result<Option<(u32, Message<'a>)>, NoMemory>
+    pub fn oneof(&self, alloc: Global, oneof: OneOf) -> Result<Option<(u32, Message<'a>)>, NoMemory>
         ensures member { IfOk result (λ found. option_map (λ won. record { number = won.0; records = fields_of won.1.bytes }) found ≡ chosen_member (is_member oneof) (fields_of self.now.bytes)) }
         ensures shape { IfOk result (λ found. IfSome found (λ won. won.1.shape ≡ self.now.shape)) }
         ensures below { IfOk result (λ found. IfSome found (λ won. won.1.below ≡ self.now.below)) }

@@ -66,7 +66,13 @@ fn record_flaw(
     match use_of_field(shape, found.number) {
         Use::Text => unless_well(is_text(block), place),
         Use::Numbers => unless_well(Packed::new(block).is_some(), place),
-        Use::Message(inner) => first_flaw(levels, inner, place, start + behind - block.len(), block),
+        Use::Message(inner) => first_flaw(
+            levels,
+            inner,
+            place,
+            start + behind - block.len(),
+            block,
+        ),
         Use::Unnamed | Use::Number | Use::Bytes => None,
     }
 }
@@ -74,7 +80,11 @@ fn record_flaw(
 fn unless_well(well: bool, place: usize) -> Option<Flaw>
     ensures { result ≡ unless well place }
 {
-    if well { None } else { Some(Flaw::Unreadable(place)) }
+    if well {
+        None
+    } else {
+        Some(Flaw::Unreadable(place))
+    }
 }
 
 // Whether the bytes are UTF-8.

@@ -1,4 +1,4 @@
-use Rattle.std.proofs.Common.{◌≡◌, ◌∙◌, ◌-◌, ◌+◌, ◌<◌, sym, ap, length, arith}
+use Rattle.std.proofs.Common.{◌∙◌, ◌-◌, sym, ap, arith}
 use Rattle.pb_wire.specs.Seen.{Rest, scan_of}
 use Rattle.plan_scan.specs.Flaw.{message_flaw}
 use Rattle.plan_scan.proofs.FlawLaws.{flaw_left, too_deep, flaw_begun}

@@ -1,4 +1,4 @@
-use Rattle.std.proofs.Common.{◌≡◌, ◌∙◌, ◌∷◌, ◌++◌, ◌<◌, ◌-◌, ◌+◌, ℕ, suc, List, [], sym, ap, true, arith, append-nil}
+use Rattle.std.proofs.Common.{◌≡◌, ◌∙◌, ◌∷◌, ◌++◌, ◌<◌, ◌-◌, suc, sym, ap, true, arith, append-nil}
 use Rattle.std.specs.List.{list_all, concat}
 use Rattle.std.proofs.lemmas.Bool.{and_parts, and_from}
 use Rattle.plan_scan.specs.Scanned.{Scanned, Left, is_readable}
@@ -31,8 +31,10 @@ returns c =
     let shape = ap (λ (left : Left). left.shape) c.self.view_is in
     let above = ap (λ (left : Left). left.above) c.self.view_is in
     let bytes : c.of_pieces.result.bytes ≡ c.in_ok-block.block.now =
-        ap (λ (m : Scanned). m.bytes) c.of_pieces.ensures ∙ ap (λ items. c.in_ok-block.block.now ++ concat (pieces_of items)) c.new.ensures.items ∙ append-nil c.in_ok-block.block.now in
-    (ap (λ (m : Scanned). m.shape) c.of_pieces.ensures ∙ shape,
-    omega (arith, ap (λ (m : Scanned). m.below) c.of_pieces.ensures, some_left here, above),
-    sym (ap (λ (left : Left). left.blocks) c.self.view_is) ∙ c.in_ok-block.ensures.given ∙ ap (λ b. b ∷ c.next.new.self) (sym bytes),
-    shape, above)
+    ap (λ (m : Scanned). m.bytes) c.of_pieces.ensures ∙ ap (λ items. c.in_ok-block.block.now ++ concat (pieces_of items)) c.new.ensures.items ∙ append-nil c.in_ok-block.block.now in (
+      ap (λ (m : Scanned). m.shape) c.of_pieces.ensures ∙ shape,
+      omega (arith, ap (λ (m : Scanned). m.below) c.of_pieces.ensures, some_left here, above),
+      sym (ap (λ (left : Left). left.blocks) c.self.view_is) ∙ c.in_ok-block.ensures.given ∙ ap (λ b. b ∷ c.next.new.self) (sym bytes),
+      shape,
+      above,
+    )

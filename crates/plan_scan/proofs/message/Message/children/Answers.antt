@@ -1,4 +1,4 @@
-use Rattle.std.proofs.Common.{◌≡◌, ◌∙◌, ◌∷◌, ap, sym, true}
+use Rattle.std.proofs.Common.{◌∙◌, ◌∷◌, ap}
 use Rattle.std.specs.List.{list_all}
 use Rattle.plan_scan.specs.Scanned.{Scanned, is_readable}
 use Rattle.plan_scan.specs.Pieces.{pieces_of}

@@ -1,4 +1,4 @@
-use Rattle.std.proofs.Common.{◌≡◌, ◌∙◌, ap, sym, subst, Option, Some, None}
+use Rattle.std.proofs.Common.{◌∙◌, ap, sym, subst, Option, None}
 use Rattle.pb_wire.specs.declared.record.Record.{Record}
 use Rattle.pb_wire.specs.Payloads.{fields_of}
 use Rattle.plan_scan.specs.Member.{is_member}

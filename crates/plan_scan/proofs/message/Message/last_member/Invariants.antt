@@ -1,5 +1,4 @@
-use Rattle.std.proofs.Common.{◌≡◌, length, map, filter, None}
-use Rattle.std.specs.List.{last_or}
+use Rattle.std.proofs.Common.{◌≡◌, length, None}
 use Rattle.pb_wire.specs.Payloads.{fields_of}
 use Rattle.plan_scan.specs.Member.{is_member}
 use Rattle.plan_scan.proofs.MemberLaws.{last_from}

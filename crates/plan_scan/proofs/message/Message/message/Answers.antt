@@ -1,4 +1,4 @@
-use Rattle.std.proofs.Common.{◌≡◌, ◌∙◌, ◌∷◌, ◌++◌, ◌<◌, ◌-◌, ◌+◌, ℕ, suc, List, [], sym, ap, true, arith, append-nil, is_some}
+use Rattle.std.proofs.Common.{◌≡◌, ◌∙◌, ◌∷◌, ◌++◌, ◌<◌, ◌-◌, ℕ, suc, List, sym, ap, true, arith, append-nil, is_some}
 use Rattle.std.specs.List.{list_all}
 use Rattle.pb_wire.specs.Payloads.{fields_of, blocks}
 use Rattle.plan_scan.specs.Scanned.{Scanned, is_readable}

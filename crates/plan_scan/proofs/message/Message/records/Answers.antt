@@ -1,4 +1,4 @@
-use Rattle.std.proofs.Common.{◌≡◌, ◌∙◌, ◌∷◌, sym, ap, true}
+use Rattle.std.proofs.Common.{◌∙◌, ◌∷◌, ap}
 use Rattle.std.specs.List.{list_all}
 use Rattle.pb_wire.specs.Payloads.{is_whole}
 use Rattle.plan_scan.specs.Pieces.{pieces_of}

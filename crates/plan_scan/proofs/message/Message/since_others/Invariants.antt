@@ -1,4 +1,4 @@
-use Rattle.std.proofs.Common.{◌≡◌, length, cond}
+use Rattle.std.proofs.Common.{◌≡◌, length}
 use Rattle.pb_wire.specs.Payloads.{fields_of, behind_last, is_other}
 use Rattle.plan_scan.specs.Member.{is_member}
 use Rattle.plan_scan.proofs.MemberLaws.{since_or}
