@@ -1,38 +1,41 @@
-// The parts of an aggregate relation and of a sort relation (Substrait `AggregateRel` and `SortField`). They are generic
-// over expressions, so that they don't lead back to themselves.
+// The parts of an aggregate relation and of a sort relation (Substrait `AggregateRel` and `SortField`).
 use crate::{FunctionArgument, FunctionOption, RawExpr, RawType};
 use plan_items::Items;
 
 /// A `SortField`.
+#[cycle(raw)]
 #[derive(Drop)]
-pub struct SortField<E = RawExpr> {
-    pub expr: Option<E>,
+pub struct SortField {
+    pub expr: Option<RawExpr>,
     pub direction: u32,
 }
 
 /// An `AggregateRel.Grouping`.
+#[cycle(raw)]
 #[derive(Drop)]
-pub struct Grouping<E = RawExpr> {
-    pub grouping_expressions: Items<E>,
+pub struct Grouping {
+    pub grouping_expressions: Items<RawExpr>,
     /// Places in the relation's own `grouping_expressions`.
     pub expression_references: Items<u32>,
 }
 
 /// An `AggregateFunction`.
+#[cycle(raw)]
 #[derive(Drop)]
-pub struct AggregateFunction<E = RawExpr> {
+pub struct AggregateFunction {
     pub function_reference: u32,
-    pub sorts: Items<SortField<E>>,
+    pub sorts: Items<SortField>,
     pub phase: u32,
     pub output_type: Option<RawType>,
     pub invocation: u32,
-    pub arguments: Items<FunctionArgument<E>>,
+    pub arguments: Items<FunctionArgument>,
     pub options: Items<FunctionOption>,
 }
 
 /// An `AggregateRel.Measure`.
+#[cycle(raw)]
 #[derive(Drop)]
-pub struct Measure<E = RawExpr> {
-    pub measure: Option<AggregateFunction<E>>,
-    pub filter: Option<E>,
+pub struct Measure {
+    pub measure: Option<AggregateFunction>,
+    pub filter: Option<RawExpr>,
 }

@@ -3,14 +3,15 @@ use crate::{RawExpr, RawType};
 use plan_items::Items;
 use sub_types::ByteList;
 
-/// A `FunctionArgument`. It is generic over expressions, so that it doesn't lead back to itself.
+/// A `FunctionArgument`.
+#[cycle(raw)]
 #[derive(Drop)]
-pub enum FunctionArgument<E = RawExpr> {
+pub enum FunctionArgument {
     Missing,
     /// The name of an enumeration's value.
     Enum(ByteList),
     TypeArgument(RawType),
-    Value(E),
+    Value(RawExpr),
 }
 
 /// A `FunctionOption`: a name and its values, the preferred first.

@@ -6,13 +6,14 @@ mod argument;
 mod expr;
 mod literal;
 mod plan;
-mod raw_copied;
+mod raw_copy;
 mod raw_expr;
+mod raw_expr_copy;
 mod raw_rel;
+mod raw_rel_copy;
 mod read;
 mod rel;
 mod sub;
-mod typed_copied;
 mod types;
 
 pub use aggregate::{AggregateFunction, Grouping, Measure, SortField};
@@ -20,7 +21,7 @@ pub use argument::{FunctionArgument, FunctionOption};
 pub use expr::{Expr, Func, Overflow};
 pub use literal::RawLiteral;
 pub use plan::{FunDecl, PlanTree, RootDecl, UriDecl};
-pub use raw_expr::{IfClause, IfValue, RawExpr, ReferenceSegment, StructField, Subquery};
+pub use raw_expr::{IfClause, IfValue, RawExpr, ReferenceSegment, StructField};
 pub use raw_rel::{RawCount, RawOffset, RawRel, RelCommon};
 pub use read::{
     ExprRow, FileItem, ItemPath, LiteralRow, LocalFiles, MaskExpression, MaskItem, MaskStruct,

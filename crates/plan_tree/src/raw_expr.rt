@@ -15,43 +15,24 @@ pub struct StructField {
     pub child: bool,
 }
 
-/// An `Expression.IfThen.IfClause`. It is generic over expressions, so that it doesn't lead back to itself.
+/// An `Expression.IfThen.IfClause`.
+#[cycle(raw)]
 #[derive(Drop)]
-pub struct IfClause<E = RawExpr> {
-    pub if_: Option<E>,
-    pub then: Option<E>,
+pub struct IfClause {
+    pub if_: Option<RawExpr>,
+    pub then: Option<RawExpr>,
 }
 
-/// An `Expression.SwitchExpression.IfValue`. It is generic over expressions, so that it doesn't lead back to itself.
+/// An `Expression.SwitchExpression.IfValue`.
+#[cycle(raw)]
 #[derive(Drop)]
-pub struct IfValue<E = RawExpr> {
+pub struct IfValue {
     pub if_: Option<RawLiteral>,
-    pub then: Option<E>,
+    pub then: Option<RawExpr>,
 }
 
-/// An `Expression.Subquery`, by the member of its oneof `subquery_type`. It is generic over expressions and relations, so
-/// that it doesn't lead back to itself.
-#[derive(Drop)]
-pub enum Subquery<E = RawExpr, R = Boxed<RawRel>> {
-    Missing,
-    Unknown {
-        number: u32,
-    },
-    Scalar {
-        input: Option<R>,
-    },
-    InPredicate {
-        needles: Items<E>,
-        haystack: Option<R>,
-    },
-    SetPredicate {
-        predicate_op: u32,
-        tuples: Option<R>,
-    },
-    SetComparison,
-}
-
-/// An `Expression`, by the member of its oneof `rex_type`.
+/// An `Expression`, by the member of its oneof `rex_type`. An `Expression.Subquery` stands as the member of its own oneof,
+/// `subquery_type`.
 #[cycle(raw)]
 #[derive(Drop)]
 pub enum RawExpr {
@@ -71,15 +52,15 @@ pub enum RawExpr {
     ScalarFunction {
         function_reference: u32,
         output_type: Option<RawType>,
-        arguments: Items<FunctionArgument<RawExpr>>,
+        arguments: Items<FunctionArgument>,
         options: Items<FunctionOption>,
     },
     IfThen {
-        ifs: Items<IfClause<RawExpr>>,
+        ifs: Items<IfClause>,
         else_: Option<Boxed<RawExpr>>,
     },
     SwitchExpression {
-        ifs: Items<IfValue<RawExpr>>,
+        ifs: Items<IfValue>,
         else_: Option<Boxed<RawExpr>>,
         match_: Option<Boxed<RawExpr>>,
     },
@@ -92,5 +73,21 @@ pub enum RawExpr {
         input: Option<Boxed<RawExpr>>,
         failure_behavior: u32,
     },
-    Subquery(Subquery<RawExpr, Boxed<RawRel>>),
+    /// A subquery without a member.
+    SubqueryMissing,
+    SubqueryUnknown {
+        number: u32,
+    },
+    Scalar {
+        input: Option<Boxed<RawRel>>,
+    },
+    InPredicate {
+        needles: Items<RawExpr>,
+        haystack: Option<Boxed<RawRel>>,
+    },
+    SetPredicate {
+        predicate_op: u32,
+        tuples: Option<Boxed<RawRel>>,
+    },
+    SetComparison,
 }

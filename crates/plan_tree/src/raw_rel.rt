@@ -11,19 +11,21 @@ pub enum RelCommon {
 }
 
 /// The oneof `offset_mode` of a fetch.
+#[cycle(raw)]
 #[derive(Drop)]
-pub enum RawOffset<E = Boxed<RawExpr>> {
+pub enum RawOffset {
     Missing,
     Offset(i64),
-    OffsetExpr(E),
+    OffsetExpr(Boxed<RawExpr>),
 }
 
 /// The oneof `count_mode` of a fetch.
+#[cycle(raw)]
 #[derive(Drop)]
-pub enum RawCount<E = Boxed<RawExpr>> {
+pub enum RawCount {
     Missing,
     Count(i64),
-    CountExpr(E),
+    CountExpr(Boxed<RawExpr>),
 }
 
 /// A `Rel`, by the member of its oneof `rel_type`. `common` is field 1 of each relation.
@@ -39,7 +41,7 @@ pub enum RawRel {
         base_schema: Option<NamedStruct>,
         filter: Option<Boxed<RawExpr>>,
         projection: Option<MaskExpression>,
-        source: RawSource<RawExpr>,
+        source: RawSource,
         /// It must be readable, and is never applied.
         best_effort_filter: Option<Boxed<RawExpr>>,
     },
@@ -51,20 +53,20 @@ pub enum RawRel {
     Fetch {
         common: Option<RelCommon>,
         input: Option<Boxed<RawRel>>,
-        offset: RawOffset<Boxed<RawExpr>>,
-        count: RawCount<Boxed<RawExpr>>,
+        offset: RawOffset,
+        count: RawCount,
     },
     Aggregate {
         common: Option<RelCommon>,
         input: Option<Boxed<RawRel>>,
-        groupings: Items<Grouping<RawExpr>>,
-        measures: Items<Measure<RawExpr>>,
+        groupings: Items<Grouping>,
+        measures: Items<Measure>,
         grouping_expressions: Items<RawExpr>,
     },
     Sort {
         common: Option<RelCommon>,
         input: Option<Boxed<RawRel>>,
-        sorts: Items<SortField<RawExpr>>,
+        sorts: Items<SortField>,
     },
     Join {
         common: Option<RelCommon>,

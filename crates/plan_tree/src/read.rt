@@ -29,21 +29,22 @@ pub struct MaskItem {
     pub child: bool,
 }
 
-/// What a read relation reads, the oneof `read_type`. It is generic over expressions, so that it doesn't lead back to
-/// itself.
+/// What a read relation reads, the oneof `read_type`.
+#[cycle(raw)]
 #[derive(Drop)]
-pub enum RawSource<E = RawExpr> {
+pub enum RawSource {
     Missing,
-    VirtualTable(VirtualTable<E>),
+    VirtualTable(VirtualTable),
     LocalFiles(LocalFiles),
     NamedTable(NamedTable),
 }
 
 /// A `ReadRel.VirtualTable`. The rows of `values` come first.
+#[cycle(raw)]
 #[derive(Drop)]
-pub struct VirtualTable<E = RawExpr> {
+pub struct VirtualTable {
     pub values: Items<LiteralRow>,
-    pub expressions: Items<ExprRow<E>>,
+    pub expressions: Items<ExprRow>,
 }
 
 /// An `Expression.Literal.Struct`.
@@ -53,9 +54,10 @@ pub struct LiteralRow {
 }
 
 /// An `Expression.Nested.Struct`.
+#[cycle(raw)]
 #[derive(Drop)]
-pub struct ExprRow<E = RawExpr> {
-    pub fields: Items<E>,
+pub struct ExprRow {
+    pub fields: Items<RawExpr>,
 }
 
 /// A `ReadRel.NamedTable`.
