@@ -4,6 +4,7 @@
 mod aggregate;
 mod argument;
 mod expr;
+mod expr_copy;
 mod literal;
 mod plan;
 mod raw_copy;
@@ -13,6 +14,7 @@ mod raw_rel;
 mod raw_rel_copy;
 mod read;
 mod rel;
+mod rel_copy;
 mod sub;
 mod types;
 
