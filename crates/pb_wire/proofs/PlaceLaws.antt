@@ -1,10 +1,10 @@
 -- The list of a message's records by places.
-use Rattle.std.proofs.Common.{◌≡◌, ◌≢◌, ◌∙◌, sym, ap, refl, subst, ℕ, zero, suc, ◌+◌, ◌-◌, ◌<◌, ◌≤◌, List, [], ◌∷◌, length, drop, Option, Some, None, IfSome, arith, length-drop}
+use Rattle.std.proofs.Common.{◌≡◌, ◌≢◌, ◌∙◌, sym, ap, refl, subst, ℕ, zero, suc, ◌+◌, ◌<◌, ◌≤◌, List, [], ◌∷◌, length, drop, Option, Some, None, IfSome, arith, length-drop}
 use Rattle.std.proofs.Common.{inl, inr}
 use Rattle.std.proofs.lemmas.Bool.{cases_eq}
 use Rattle.std.proofs.Math.ListN.{drop_of_length-le}
 use Rattle.std.proofs.lemmas.List.{drop-drop}
-use Rattle.pb_wire.specs.Records.{Entry, Placed, Scan, stands, record_at, scan_from, behind_record, records_of, IsScanFrom, IsScan}
+use Rattle.pb_wire.specs.Records.{Entry, Placed, Scan, record_at, scan_from, behind_record, records_of, IsScanFrom, IsScan}
 use Rattle.pb_wire.proofs.SizeLaws.{IsSize, stands_size}
 use Rattle.pb_wire.proofs.ScanLaws.{scan-end, scan-broken, scan-first}
 

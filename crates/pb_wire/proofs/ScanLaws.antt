@@ -1,9 +1,9 @@
 -- The records of a message one by one.
 use Rattle.std.proofs.Common.{◌≡◌, ◌≢◌, ◌∙◌, sym, ap, refl, ℕ, zero, suc, ◌+◌, ◌-◌, ◌<◌, ◌≤◌, List, [], ◌∷◌, length, drop, Option, Some, None, arith, add-zero}
-use Rattle.std.proofs.Common.{IfSome, Result, Ok, Err, subst}
+use Rattle.std.proofs.Common.{IfSome, IfOk, Result, Ok, Err, subst}
 use Rattle.pb_wire.specs.Records.{Entry, Scan, stands, scan_from, behind_record}
 use Rattle.pb_wire.specs.declared.record.Record.{Record}
-use Rattle.pb_wire.specs.Seen.{Rest, IsNext, IsFirst, scan_of, entry_of}
+use Rattle.pb_wire.specs.Seen.{Rest, IsNext, IsFirst, IsBehind, scan_of, entry_of}
 use Rattle.pb_wire.proofs.SizeLaws.{IsSize, stands_size}
 
 -- bytes that belong to the record before are passed over
@@ -30,7 +30,7 @@ pub scan-broken : (place : ℕ) (bytes : List ℕ) → bytes ≢ [] → stands b
 scan-broken place [] some none = absurd (some refl)
 scan-broken place (byte ∷ bytes) some none = at_record place byte bytes None none
 
-drop-front : (n byte : ℕ) (bytes : List ℕ) → 0 < n → drop n (byte ∷ bytes) ≡ drop (n - 1) bytes
+pub drop-front : (n byte : ℕ) (bytes : List ℕ) → 0 < n → drop n (byte ∷ bytes) ≡ drop (n - 1) bytes
 drop-front zero byte bytes h = absurd (omega arith)
 drop-front (suc n) byte bytes h = let less : n ≡ suc n - 1 = omega arith in ap (λ k. drop k bytes) less
 
@@ -55,3 +55,18 @@ first_of_next old new (Some (Ok found)) (here, (size, stand, moved)) =
     let entry = entry_of found size in
     let fits = stands_within old.bytes entry stand in
     (size, scan-first old.place old.bytes entry stand fits.some fits.within ∙ ap (λ p. behind_record p entry (scan_from (old.place + size) (drop size old.bytes) 0)) (sym here) ∙ ap (λ rest. behind_record found.place entry (scan_of rest)) (sym moved))
+
+pub behind_of_next : (old new : Rest) (result : Option (Result Record ℕ)) → IsNext old new result → IfSome result (λ next. IfOk next (λ found. IsBehind found old new))
+unfolding scan_of
+behind_of_next old new None next = tt
+behind_of_next old new (Some (Err place)) next = tt
+behind_of_next old new (Some (Ok found)) (here, (size, stand, moved)) =
+    let taken : new.place - found.place ≡ size = omega (arith, here, ap (λ r. r.place) moved) in
+    let entry = entry_of found size in
+    let fits = stands_within old.bytes entry stand in
+    let first : scan_of old ≡ behind_record found.place (entry_of found size) (scan_of new) =
+        scan-first old.place old.bytes entry stand fits.some fits.within ∙ ap (λ p. behind_record p entry (scan_from (old.place + size) (drop size old.bytes) 0)) (sym here) ∙ ap (λ rest. behind_record found.place entry (scan_of rest)) (sym moved) in
+    record {
+      before = omega (arith, here, ap (λ r. r.place) moved);
+      first = first ∙ ap (λ n. behind_record found.place (entry_of found n) (scan_of new)) (sym taken);
+    }

@@ -1,9 +1,9 @@
 -- A varint, a payload and a record take at least one byte, and no more than there are.
-use Rattle.std.proofs.Common.{◌≡◌, ◌∙◌, sym, ap, refl, ℕ, zero, suc, ◌+◌, ◌-◌, ◌*◌, ◌/◌, ◌%◌, ◌^◌, ◌<◌, ◌≤◌, List, [], ◌∷◌, length, take, drop, Bool, true, false, cond, nat_eq, nat_lt, nat_le, Option, Some, None, IfSome, arith, length-drop, ◌&&◌}
+use Rattle.std.proofs.Common.{◌≡◌, refl, ℕ, zero, suc, ◌+◌, ◌%◌, ◌^◌, ◌<◌, ◌≤◌, List, [], ◌∷◌, length, drop, Bool, true, false, cond, nat_eq, nat_lt, nat_le, Option, Some, None, IfSome, arith, length-drop, ◌&&◌}
 use Rattle.std.specs.Option.{option_map, option_and_then}
 use Rattle.std.proofs.lemmas.Bool.{leb-true}
 use Rattle.pb_wire.specs.Varint.{varint_within, varint_of, behind_byte}
-use Rattle.pb_wire.specs.Records.{Content, Entry, payload_of, fixed, block_of, stands}
+use Rattle.pb_wire.specs.Records.{Content, payload_of, fixed, block_of, stands}
 
 -- the size lies within the bytes
 abbrev pub Within : {A : Type 0} → (A → ℕ) → List ℕ → Option A → Type 0

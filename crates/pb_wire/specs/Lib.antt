@@ -1,3 +1,4 @@
 pub mod Varint
 pub mod Records
 pub mod Seen
+pub mod Payloads

@@ -1,9 +1,9 @@
 -- What a reader of records gives, without references.
-use Rattle.std.specs.Prelude.{◌≡◌, ◌≢◌, ℕ, ◌+◌, List, [], Option, Some, None, Result, Ok, Err, drop}
-use Rattle.std.specs.Borrow.{Bor}
+use Rattle.std.specs.Prelude.{◌≡◌, ◌≢◌, ℕ, ◌+◌, ◌-◌, ◌≤◌, List, [], ◌∷◌, true, false, length, Option, Some, None, Result, Ok, Err, drop}
 use Rattle.pb_wire.specs.declared.record.Payload.{Payload}
 use Rattle.pb_wire.specs.declared.record.Payload.TheVariants as payloads
 use Rattle.pb_wire.specs.declared.record.Record.{Record}
+use Rattle.pb_wire.specs.Payloads.{Field, fields_of, is_whole}
 use Rattle.pb_wire.specs.Records.{Content, Varint, Eight, Bytes, Four, Entry, Scan, stands, scan_from, behind_record}
 
 abbrev pub content_of : Payload → Content
@@ -38,3 +38,25 @@ abbrev pub IsFirst : Rest → Rest → Option (Result Record ℕ) → Type 0
 IsFirst old new None = scan_of old ≡ record { records = []; broken = None }
 IsFirst old new (Some (Err place)) = scan_of old ≡ record { records = []; broken = Some place }
 IsFirst old new (Some (Ok found)) = (size : ℕ) × (scan_of old ≡ behind_record found.place (entry_of found size) (scan_of new))
+
+-- the record is the first of those that were left, and takes the bytes up to the place that was come to
+pub record IsBehind (found : Record) (old new : Rest) : Type 0 where
+  pub before : found.place ≤ new.place
+  pub first : scan_of old ≡ behind_record found.place (entry_of found (new.place - found.place)) (scan_of new)
+
+-- a record without its place
+abbrev pub field_seen : Record → Field
+field_seen found = record { number = found.number; content = content_of found.payload }
+
+-- what was given is the first of the records that were left, without their places
+abbrev pub IsFirstField : Rest → Rest → Option (Result Record ℕ) → Type 0
+IsFirstField old new None = (fields_of old.bytes ≡ []) × (is_whole old.bytes ≡ true)
+IsFirstField old new (Some (Err place)) = (fields_of old.bytes ≡ []) × (is_whole old.bytes ≡ false)
+IsFirstField old new (Some (Ok found)) = (fields_of old.bytes ≡ field_seen found ∷ fields_of new.bytes) × (is_whole old.bytes ≡ is_whole new.bytes)
+
+-- how many bytes of its record a payload is
+abbrev pub block_len : Payload → ℕ
+block_len (payloads.Varint value) = 0
+block_len (payloads.Eight value) = 0
+block_len (payloads.Bytes bytes) = length bytes.now
+block_len (payloads.Four value) = 0

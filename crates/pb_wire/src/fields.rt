@@ -2,7 +2,7 @@
 ghost use Rattle.std.specs.Prelude.{◌≡◌, ◌≤◌, ◌<◌, ◌^◌, ◌+◌, length, drop, IfSome};
 ghost use Rattle.std.specs.Option.{option_map};
 ghost use Rattle.pb_wire.specs.Records.{stands, payload_of, fixed, block_of, Eight, Four};
-ghost use Rattle.pb_wire.specs.Seen.{content_of, entry_of};
+ghost use Rattle.pb_wire.specs.Seen.{content_of, entry_of, block_len};
 
 use crate::record::{Payload, Record};
 use crate::varint;
@@ -28,8 +28,8 @@ impl<'a> Model for Fields<'a> {
 }
 
 impl<'a> Fields<'a> {
-    ghost use Rattle.std.specs.Prelude.{◌≡◌, ◌<◌, length, IfSome, OnOk};
-    ghost use Rattle.pb_wire.specs.Seen.{IsNext, IsFirst};
+    ghost use Rattle.std.specs.Prelude.{◌≡◌, ◌<◌, ◌≤◌, ◌+◌, length, IfSome, IfOk, OnOk};
+    ghost use Rattle.pb_wire.specs.Seen.{IsNext, IsFirst, IsFirstField, IsBehind, block_len};
 
     /// The records of a message, from the first on.
     pub fn new(bytes: &'a [u8]) -> Fields<'a>
@@ -45,12 +45,28 @@ impl<'a> Fields<'a> {
         self.place
     }
 
+    /// The bytes from the place on that the reader has come to.
+    pub fn rest(&self) -> &'a [u8]
+        ensures { result.now ≡ self.now.bytes }
+    {
+        let (_, rest) = self.bytes.split_at(self.place);
+        rest
+    }
+
     /// The next record; `Err` with the place where no record stands, and then always the same; `None` at the end.
-    #[tactic(auto, using(crate::proofs::ScanLaws::first_of_next))]
+    #[tactic(auto, using(crate::proofs::ScanLaws::first_of_next, crate::proofs::FieldLaws::first_field_of_next, crate::proofs::ScanLaws::behind_of_next))]
     pub fn next(&mut self) -> Option<Result<Record<'a>, usize>>
         ensures next { IsNext self.old self.new result }
         ensures first { IsFirst self.old self.new result }
+        ensures field { IsFirstField self.old self.new result }
         ensures moved { IfSome result (λ next. OnOk next (length self.new.bytes < length self.old.bytes)) }
+
+        // A record takes the bytes up to the place that the reader has come to.
+        ensures size { IfSome result (λ next. IfOk next (λ found. IsBehind found self.old self.new)) }
+
+        // A payload lies before the place that the reader has come to, which never leaves the bytes.
+        ensures payload { IfSome result (λ next. IfOk next (λ found. block_len found.payload ≤ self.new.place)) }
+        ensures within { self.new.place + length self.new.bytes ≡ self.old.place + length self.old.bytes }
     {
         self.step()
     }
@@ -58,8 +74,10 @@ impl<'a> Fields<'a> {
     fn step(&mut self) -> Option<Result<Record<'a>, usize>>
         ensures next { IsNext self.old self.new result }
         ensures moved { IfSome result (λ next. OnOk next (length self.new.bytes < length self.old.bytes)) }
+        ensures payload { IfSome result (λ next. IfOk next (λ found. block_len found.payload ≤ self.new.place)) }
+        ensures within { self.new.place + length self.new.bytes ≡ self.old.place + length self.old.bytes }
     {
-        let (_, rest) = self.bytes.split_at(self.place);
+        let rest = self.rest();
         if rest.len() == 0 {
             return None;
         }
@@ -77,6 +95,7 @@ fn record_at<'a>(bytes: &'a [u8], place: usize) -> Option<(Record<'a>, usize)>
     ensures stands { option_map (λ found. entry_of found.0 found.1) result ≡ stands bytes.entry.now }
     ensures place { IfSome result (λ found. found.0.place ≡ place) }
     ensures size { IfSome result (λ found. (0 < found.1) × (found.1 ≤ length bytes.entry.now)) }
+    ensures payload { IfSome result (λ found. block_len found.0.payload ≤ found.1) }
 {
     let (key, key_len) = varint(bytes)?;
     if key >= 1 << 32 || key < 8 {
@@ -95,7 +114,7 @@ fn record_at<'a>(bytes: &'a [u8], place: usize) -> Option<(Record<'a>, usize)>
 // The payload of this wire type that begins the bytes, and its length.
 fn payload<'a>(wire: u64, bytes: &'a [u8]) -> Option<(Payload<'a>, usize)>
     ensures payload { option_map (λ found. (content_of found.0, found.1)) result ≡ payload_of wire bytes.entry.now }
-    ensures len { IfSome result (λ found. found.1 ≤ length bytes.entry.now) }
+    ensures len { IfSome result (λ found. (block_len found.0 ≤ found.1) × (found.1 ≤ length bytes.entry.now)) }
 {
     if wire == 0 {
         let (value, len) = varint(bytes)?;
@@ -115,7 +134,7 @@ fn payload<'a>(wire: u64, bytes: &'a [u8]) -> Option<(Payload<'a>, usize)>
 
 fn eight<'a>(bytes: &'a [u8]) -> Option<(Payload<'a>, usize)>
     ensures payload { option_map (λ found. (content_of found.0, found.1)) result ≡ fixed 8 Eight bytes.entry.now }
-    ensures len { IfSome result (λ found. found.1 ≤ length bytes.entry.now) }
+    ensures len { IfSome result (λ found. (block_len found.0 ≤ found.1) × (found.1 ≤ length bytes.entry.now)) }
 {
     if bytes.len() < 8 {
         return None;
@@ -125,7 +144,7 @@ fn eight<'a>(bytes: &'a [u8]) -> Option<(Payload<'a>, usize)>
 
 fn four<'a>(bytes: &'a [u8]) -> Option<(Payload<'a>, usize)>
     ensures payload { option_map (λ found. (content_of found.0, found.1)) result ≡ fixed 4 Four bytes.entry.now }
-    ensures len { IfSome result (λ found. found.1 ≤ length bytes.entry.now) }
+    ensures len { IfSome result (λ found. (block_len found.0 ≤ found.1) × (found.1 ≤ length bytes.entry.now)) }
 {
     if bytes.len() < 4 {
         return None;
@@ -136,7 +155,7 @@ fn four<'a>(bytes: &'a [u8]) -> Option<(Payload<'a>, usize)>
 // A length and that many bytes.
 fn block<'a>(bytes: &'a [u8]) -> Option<(Payload<'a>, usize)>
     ensures payload { option_map (λ found. (content_of found.0, found.1)) result ≡ block_of bytes.entry.now }
-    ensures len { IfSome result (λ found. found.1 ≤ length bytes.entry.now) }
+    ensures len { IfSome result (λ found. (block_len found.0 ≤ found.1) × (found.1 ≤ length bytes.entry.now)) }
 {
     let (len, from) = varint(bytes)?;
     let (_, rest) = bytes.split_at(from);

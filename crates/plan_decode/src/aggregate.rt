@@ -1,0 +1,162 @@
+// Aggregate relations (Substrait `AggregateRel`) and the fields of sorts (`SortField`).
+ghost use Rattle.std.specs.Prelude.{◌≡◌, IfOk};
+ghost use Rattle.pb_wire.specs.Payloads.{fields_of};
+ghost use Rattle.plan_scan.specs.Table.{HoldsMessage};
+ghost use Rattle.plan_parts.specs.Shapes.{child, children};
+ghost use Rattle.plan_parts.specs.Rels.{grouping_by, sort_field_by, aggregate_function_by, measure_by, aggregate_by};
+ghost use Rattle.plan_parts.specs.Reader.{reader};
+
+use crate::argument::arguments_at;
+use crate::at::{expr_at, exprs_at, rel_at};
+use plan_items::Items;
+use plan_parts::{common_at, options_at, type_at};
+use plan_scan::{Message, Shape};
+use plan_tree::{AggregateFunction, Grouping, Measure, RawRel, SortField};
+use std::alloc::Global;
+use sub_types::NoMemory;
+
+/// An `AggregateRel`.
+#[cycle(tree)]
+fn aggregate(alloc: Global, message: &Message<'_>) -> Result<RawRel, NoMemory>
+    requires { message.now.shape ≡ Shape.AggregateRel }
+    ensures { IfOk result (λ rel. rel ≡ aggregate_by (reader message.now.below) (fields_of message.now.bytes)) }
+{
+    Ok(RawRel::Aggregate {
+        common: common_at(alloc, message)?,
+        input: rel_at(alloc, message, 2)?,
+        groupings: groupings_at(alloc, message, 3)?,
+        measures: measures_at(alloc, message, 4)?,
+        grouping_expressions: exprs_at(alloc, message, 5)?,
+    })
+}
+
+#[cycle(tree)]
+fn groupings_at(
+    alloc: Global,
+    message: &Message<'_>,
+    number: u32,
+) -> Result<Items<Grouping>, NoMemory>
+    requires { HoldsMessage message.now.shape number Shape.Grouping }
+    ensures { IfOk result (λ groupings. groupings ≡ children (reader message.now.below) Shape.Grouping number (fields_of message.now.bytes)) }
+{
+    let mut groupings = Vec::new(alloc);
+    let mut left = message.children(number, Shape::Grouping);
+    while let Some(found) = left.next(alloc) {
+        groupings.push(grouping(alloc, &found)?)?;
+    }
+    Ok(Items::from_vec(groupings))
+}
+
+#[cycle(tree)]
+fn grouping(alloc: Global, message: &Message<'_>) -> Result<Grouping, NoMemory>
+    requires { message.now.shape ≡ Shape.Grouping }
+    ensures { IfOk result (λ grouping. grouping ≡ grouping_by (reader message.now.below) (fields_of message.now.bytes)) }
+{
+    Ok(Grouping {
+        grouping_expressions: exprs_at(alloc, message, 1)?,
+        expression_references: Items::from_vec(message.uint32s(alloc, 2)?),
+    })
+}
+
+#[cycle(tree)]
+fn measures_at(
+    alloc: Global,
+    message: &Message<'_>,
+    number: u32,
+) -> Result<Items<Measure>, NoMemory>
+    requires { HoldsMessage message.now.shape number Shape.Measure }
+    ensures { IfOk result (λ measures. measures ≡ children (reader message.now.below) Shape.Measure number (fields_of message.now.bytes)) }
+{
+    let mut measures = Vec::new(alloc);
+    let mut left = message.children(number, Shape::Measure);
+    while let Some(found) = left.next(alloc) {
+        measures.push(measure(alloc, &found)?)?;
+    }
+    Ok(Items::from_vec(measures))
+}
+
+#[cycle(tree)]
+fn measure(alloc: Global, message: &Message<'_>) -> Result<Measure, NoMemory>
+    requires { message.now.shape ≡ Shape.Measure }
+    ensures { IfOk result (λ measure. measure ≡ measure_by (reader message.now.below) (fields_of message.now.bytes)) }
+{
+    Ok(Measure {
+        measure: function_at(alloc, message, 1)?,
+        filter: expr_at(alloc, message, 2)?,
+    })
+}
+
+#[cycle(tree)]
+fn function_at(
+    alloc: Global,
+    message: &Message<'_>,
+    number: u32,
+) -> Result<Option<AggregateFunction>, NoMemory>
+    requires { HoldsMessage message.now.shape number Shape.AggregateFunction }
+    ensures { IfOk result (λ function. function ≡ child (reader message.now.below) Shape.AggregateFunction number (fields_of message.now.bytes)) }
+{
+    match message.message(alloc, number, Shape::AggregateFunction)? {
+        None => Ok(None),
+        Some(found) => Ok(Some(aggregate_function(alloc, &found)?)),
+    }
+}
+
+#[cycle(tree)]
+fn aggregate_function(alloc: Global, message: &Message<'_>) -> Result<AggregateFunction, NoMemory>
+    requires { message.now.shape ≡ Shape.AggregateFunction }
+    ensures { IfOk result (λ function. function ≡ aggregate_function_by (reader message.now.below) (fields_of message.now.bytes)) }
+{
+    Ok(AggregateFunction {
+        function_reference: message.uint32(1),
+        sorts: sort_fields_at(alloc, message, 3)?,
+        phase: message.uint32(4),
+        output_type: type_at(alloc, message, 5)?,
+        invocation: message.uint32(6),
+        arguments: arguments_at(alloc, message, 7)?,
+        options: options_at(alloc, message, 8)?,
+    })
+}
+
+/// The fields of a sort in a field of a message.
+#[cycle(tree)]
+pub(crate) fn sort_fields_at(
+    alloc: Global,
+    message: &Message<'_>,
+    number: u32,
+) -> Result<Items<SortField>, NoMemory>
+    requires { HoldsMessage message.now.shape number Shape.SortField }
+    ensures { IfOk result (λ sorts. sorts ≡ children (reader message.now.below) Shape.SortField number (fields_of message.now.bytes)) }
+{
+    let mut sorts = Vec::new(alloc);
+    let mut left = message.children(number, Shape::SortField);
+    while let Some(found) = left.next(alloc) {
+        sorts.push(sort_field(alloc, &found)?)?;
+    }
+    Ok(Items::from_vec(sorts))
+}
+
+#[cycle(tree)]
+fn sort_field(alloc: Global, message: &Message<'_>) -> Result<SortField, NoMemory>
+    requires { message.now.shape ≡ Shape.SortField }
+    ensures { IfOk result (λ sort. sort ≡ sort_field_by (reader message.now.below) (fields_of message.now.bytes)) }
+{
+    Ok(SortField {
+        expr: expr_at(alloc, message, 1)?,
+        direction: message.uint32(2),
+    })
+}
+
+#[cycle(tree)]
+pub(crate) fn aggregate_at(
+    alloc: Global,
+    message: &Message<'_>,
+    number: u32,
+) -> Result<Option<RawRel>, NoMemory>
+    requires { HoldsMessage message.now.shape number Shape.AggregateRel }
+    ensures { IfOk result (λ rel. rel ≡ child (reader message.now.below) Shape.AggregateRel number (fields_of message.now.bytes)) }
+{
+    match message.message(alloc, number, Shape::AggregateRel)? {
+        None => Ok(None),
+        Some(found) => Ok(Some(aggregate(alloc, &found)?)),
+    }
+}

@@ -1,0 +1,11 @@
+//! A `Vec` and a `Box` that contracts see as what they hold, so that a tree of them is plain data and
+//! a copy of it equals it.
+#![tactic(auto)]
+
+mod boxed;
+mod copy_in;
+mod items;
+
+pub use boxed::Boxed;
+pub use copy_in::CopyIn;
+pub use items::Items;

@@ -1,0 +1,45 @@
+-- How messages are found one level further down, and how the messages of a field are read one by one.
+use Rattle.std.proofs.Common.{◌≡◌, ◌∙◌, ℕ, suc, ◌+◌, List, [], ◌∷◌, ◌++◌, Option, Some, None, IfSome, refl, sym, ap, subst, append_assoc, add-one}
+use Rattle.std.specs.List.{filter_map}
+use Rattle.std.specs.Option.{option_map, option_and_then}
+use Rattle.pb_wire.specs.Payloads.{Field, fields_of, merged_message}
+use Rattle.plan_scan.specs.declared.shape.Shape.{Shape}
+use Rattle.plan_scan.specs.Scanned.{Scanned, Left, IsNextChild}
+use Rattle.plan_parts.specs.Shapes.{Tree, child}
+use Rattle.plan_parts.specs.Reader.{tree_by, reader}
+
+-- a message one level further down
+pub reader-child : (below above : ℕ) (shape : Shape) (fields : List Field) → below + 1 ≡ above → reader above shape fields ≡ Some (tree_by (reader below) shape fields)
+unfolding reader
+reader-child below above shape fields one = let P : ℕ → Type 0 = λ n. reader n shape fields ≡ Some (tree_by (reader below) shape fields) in
+    subst P (sym (add-one below) ∙ one) refl
+
+-- the message of a singular field that was found, and what it was read as
+pub read_part : (m : Scanned) (found : Option Scanned) (part : Scanned) (shape : Shape) (number : ℕ) (x : Tree shape) →
+    found ≡ Some part →
+    option_map (λ (inner : Scanned). inner.bytes) found ≡ merged_message number (fields_of m.bytes) →
+    IfSome found (λ inner. inner.below + 1 ≡ m.below) →
+    x ≡ tree_by (reader part.below) shape (fields_of part.bytes) →
+    Some x ≡ child (reader m.below) shape number (fields_of m.bytes)
+read_part m found part shape number x is bytes below read =
+    let P : Option Scanned → Type 0 = λ o. IfSome o (λ inner. inner.below + 1 ≡ m.below) in
+    let one : part.below + 1 ≡ m.below = subst P is below in
+    let merged : Some part.bytes ≡ merged_message number (fields_of m.bytes) = ap (option_map (λ (inner : Scanned). inner.bytes)) (sym is) ∙ bytes in
+    ap Some read ∙ sym (reader-child part.below m.below shape (fields_of part.bytes) one) ∙ ap (λ o. option_and_then (λ b. reader m.below shape (fields_of b)) o) merged
+
+-- the messages of a field that are left, as they will be read
+abbrev pub left_of : ℕ → (shape : Shape) → List (List ℕ) → List (Tree shape)
+left_of above shape blocks = filter_map (λ bytes. reader above shape (fields_of bytes)) blocks
+
+-- one more message of a repeated field, and what it was read as
+pub read_next : (above : ℕ) (shape : Shape) (old new : Left) (next : Scanned) (done pushed all : List (Tree shape)) (x : Tree shape) →
+    old.above ≡ above →
+    IsNextChild old new (Some next) →
+    x ≡ tree_by (reader next.below) shape (fields_of next.bytes) →
+    pushed ≡ done ++ x ∷ [] →
+    done ++ left_of above shape old.blocks ≡ all →
+    pushed ++ left_of above shape new.blocks ≡ all
+read_next above shape old new next done pushed all x from step read push whole =
+    let one : reader above shape (fields_of next.bytes) ≡ Some x = reader-child next.below above shape (fields_of next.bytes) (step.1 ∙ from) ∙ ap Some (sym read) in
+    let first : left_of above shape old.blocks ≡ x ∷ left_of above shape new.blocks = ap (left_of above shape) step.2 ∙ rw one refl in
+    ap (λ front. front ++ left_of above shape new.blocks) push ∙ append_assoc done (x ∷ []) (left_of above shape new.blocks) ∙ ap (λ more. done ++ more) (sym first) ∙ whole

@@ -1,0 +1,23 @@
+//! The parts of a plan's tree that hold no relation and no expression, read from the messages of a readable plan, and in
+//! `specs/` what the tree of a plan's bytes is.
+#![tactic(auto)]
+
+mod common;
+mod declared;
+mod files;
+mod literal;
+mod mask;
+mod options;
+mod reference;
+mod schema;
+mod types;
+
+pub use common::common_at;
+pub use declared::{functions_at, uris_at};
+pub use files::{local_files, named_table};
+pub use literal::{literal_at, literal_rows_at};
+pub use mask::mask_at;
+pub use options::options_at;
+pub use reference::selection;
+pub use schema::named_struct_at;
+pub use types::type_at;

@@ -1,0 +1,155 @@
+// Literals (Substrait `Expression.Literal`) and rows of them.
+ghost use Rattle.std.specs.Prelude.{◌≡◌, IfOk};
+ghost use Rattle.pb_wire.specs.Payloads.{fields_of};
+ghost use Rattle.plan_scan.specs.Table.{HoldsMessage};
+ghost use Rattle.plan_parts.specs.Shapes.{child, children};
+ghost use Rattle.plan_parts.specs.Types.{decimal_of, decimal_in, null_by, literal_member, literal_by};
+ghost use Rattle.plan_parts.specs.Rels.{literal_row_by};
+ghost use Rattle.plan_parts.specs.Reader.{reader};
+
+use crate::types::type_at;
+use plan_items::Items;
+use plan_scan::{Message, OneOf, Shape};
+use plan_tree::{LiteralRow, RawLiteral};
+use std::alloc::Global;
+use sub_types::NoMemory;
+
+/// The literal in a field of a message, or `None` where it is absent.
+pub fn literal_at(
+    alloc: Global,
+    message: &Message<'_>,
+    number: u32,
+) -> Result<Option<RawLiteral>, NoMemory>
+    requires { HoldsMessage message.now.shape number Shape.Literal }
+    ensures { IfOk result (λ literal. literal ≡ child (reader message.now.below) Shape.Literal number (fields_of message.now.bytes)) }
+{
+    match message.message(alloc, number, Shape::Literal)? {
+        None => Ok(None),
+        Some(found) => Ok(Some(literal(alloc, &found)?)),
+    }
+}
+
+/// The rows of literals in a field of a message.
+pub fn literal_rows_at(
+    alloc: Global,
+    message: &Message<'_>,
+    number: u32,
+) -> Result<Items<LiteralRow>, NoMemory>
+    requires { HoldsMessage message.now.shape number Shape.LiteralRow }
+    ensures { IfOk result (λ rows. rows ≡ children (reader message.now.below) Shape.LiteralRow number (fields_of message.now.bytes)) }
+{
+    let mut rows = Vec::new(alloc);
+    let mut left = message.children(number, Shape::LiteralRow);
+    while let Some(row) = left.next(alloc) {
+        rows.push(literal_row(alloc, &row)?)?;
+    }
+    Ok(Items::from_vec(rows))
+}
+
+fn literal_row(alloc: Global, message: &Message<'_>) -> Result<LiteralRow, NoMemory>
+    requires { message.now.shape ≡ Shape.LiteralRow }
+    ensures { IfOk result (λ row. row ≡ literal_row_by (reader message.now.below) (fields_of message.now.bytes)) }
+{
+    let mut fields = Vec::new(alloc);
+    let mut left = message.children(1, Shape::Literal);
+    while let Some(field) = left.next(alloc) {
+        fields.push(literal(alloc, &field)?)?;
+    }
+    Ok(LiteralRow {
+        fields: Items::from_vec(fields),
+    })
+}
+
+fn literal(alloc: Global, message: &Message<'_>) -> Result<RawLiteral, NoMemory>
+    requires { message.now.shape ≡ Shape.Literal }
+    ensures { IfOk result (λ literal. literal ≡ literal_by (reader message.now.below) (fields_of message.now.bytes)) }
+{
+    let nullable = message.boolean(50);
+    match message.oneof(alloc, OneOf::LiteralType)? {
+        None => Ok(RawLiteral::Missing),
+        Some((number, won)) => member(alloc, number, &won, nullable),
+    }
+}
+
+fn member(
+    alloc: Global,
+    number: u32,
+    won: &Message<'_>,
+    nullable: bool,
+) -> Result<RawLiteral, NoMemory>
+    requires { won.now.shape ≡ Shape.Literal }
+    ensures { IfOk result (λ literal. literal ≡ literal_member (reader won.now.below) nullable number (fields_of won.now.bytes)) }
+{
+    match number {
+        1 => Ok(RawLiteral::Boolean {
+            value: won.boolean(1),
+            nullable,
+        }),
+        2 => Ok(RawLiteral::I8 {
+            value: won.int32(2),
+            nullable,
+        }),
+        3 => Ok(RawLiteral::I16 {
+            value: won.int32(3),
+            nullable,
+        }),
+        5 => Ok(RawLiteral::I32 {
+            value: won.int32(5),
+            nullable,
+        }),
+        7 => Ok(RawLiteral::I64 {
+            value: won.int64(7),
+            nullable,
+        }),
+        12 => Ok(RawLiteral::String {
+            value: won.text(alloc, 12)?,
+            nullable,
+        }),
+        13 => Ok(RawLiteral::Binary {
+            value: won.byte_list(alloc, 13)?,
+            nullable,
+        }),
+        14 => Ok(RawLiteral::Timestamp {
+            value: won.int64(14),
+            nullable,
+        }),
+        16 => Ok(RawLiteral::Date {
+            value: won.int32(16),
+            nullable,
+        }),
+        24 => decimal_at(alloc, won, nullable),
+        29 => null_at(alloc, won, nullable),
+        _ => Ok(RawLiteral::Unknown { number }),
+    }
+}
+
+fn decimal_at(alloc: Global, won: &Message<'_>, nullable: bool) -> Result<RawLiteral, NoMemory>
+    requires { won.now.shape ≡ Shape.Literal }
+    ensures { IfOk result (λ literal. literal ≡ decimal_in nullable (fields_of won.now.bytes)) }
+{
+    match won.message(alloc, 24, Shape::DecimalLiteral)? {
+        None => Ok(RawLiteral::Missing),
+        Some(found) => decimal(alloc, &found, nullable),
+    }
+}
+
+fn decimal(alloc: Global, message: &Message<'_>, nullable: bool) -> Result<RawLiteral, NoMemory>
+    ensures { IfOk result (λ literal. literal ≡ decimal_of nullable (fields_of message.now.bytes)) }
+{
+    Ok(RawLiteral::Decimal {
+        value: message.byte_list(alloc, 1)?,
+        precision: message.int32(2),
+        scale: message.int32(3),
+        nullable,
+    })
+}
+
+fn null_at(alloc: Global, won: &Message<'_>, nullable: bool) -> Result<RawLiteral, NoMemory>
+    requires { won.now.shape ≡ Shape.Literal }
+    ensures { IfOk result (λ literal. literal ≡ null_by (reader won.now.below) nullable (fields_of won.now.bytes)) }
+{
+    match type_at(alloc, won, 29)? {
+        None => Ok(RawLiteral::Missing),
+        Some(type_) => Ok(RawLiteral::Null { type_, nullable }),
+    }
+}

@@ -1,0 +1,4 @@
+pub mod FlawLaws
+pub mod ReadableLaws
+pub mod PieceLaws
+pub mod MemberLaws

@@ -1,0 +1,6 @@
+use Rattle.std.proofs.Common.{◌≡◌, map, take}
+use Rattle.pb_wire.specs.Payloads.{as_uint32}
+use Rattle.plan_scan.proofs.message.Message.uint32s.Given as goal
+
+abbrev pub invariant-loop-value : goal.invariant-loop-value
+invariant-loop-value l = l.numbers.items ≡ map as_uint32 (take l.value-index l.value-items)

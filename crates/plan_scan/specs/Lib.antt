@@ -1,0 +1,6 @@
+pub mod Table
+pub mod Flaw
+pub mod Member
+pub mod Seen
+pub mod Scanned
+pub mod Pieces

@@ -1,0 +1,21 @@
+//! Which bytes of a plan are readable, with the first flaw of those that aren't, and the messages of a readable plan.
+#![tactic(auto)]
+
+mod blocks;
+mod children;
+mod flaw;
+mod message;
+mod oneof;
+mod records;
+mod scan;
+mod shape;
+mod table;
+mod values;
+
+pub use children::Children;
+pub use flaw::Flaw;
+pub use message::Message;
+pub use oneof::OneOf;
+pub use scan::flaw_of;
+pub use shape::{Shape, Use};
+pub use table::use_of_field;

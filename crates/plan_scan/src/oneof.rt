@@ -1,0 +1,94 @@
+// The oneofs of a plan's messages.
+ghost use Rattle.std.specs.Prelude.{◌≡◌};
+ghost use Rattle.pb_wire.specs.Seen.{content_of, field_seen};
+ghost use Rattle.plan_scan.specs.Member.{owner, has_number, has_wire_type, is_member};
+
+use crate::shape::{Shape, Use};
+use crate::table::use_of_field;
+use pb_wire::{Payload, Record};
+
+/// A oneof, by its name in the message that has it.
+#[derive(Clone, Copy, Debug, PartialEq, Eq)]
+pub enum OneOf {
+    /// `rel_type` of `PlanRel`.
+    PlanRelType,
+    /// `emit_kind` of `RelCommon`.
+    EmitKind,
+    /// `read_type` of `ReadRel`.
+    ReadType,
+    /// `path_type` of a file item.
+    PathType,
+    /// `offset_mode` of `FetchRel`.
+    OffsetMode,
+    /// `count_mode` of `FetchRel`.
+    CountMode,
+    /// `rel_type` of `Rel`.
+    RelType,
+    /// `arg_type` of `FunctionArgument`.
+    ArgumentType,
+    /// `rex_type` of `Expression`.
+    RexType,
+    /// `literal_type` of `Literal`.
+    LiteralType,
+    /// `kind` of `Type`.
+    TypeKind,
+    /// `subquery_type` of `Subquery`.
+    SubqueryType,
+}
+
+impl OneOf {
+    /// Whether the record is of a member. One of a named field with another wire type than its own isn't.
+    pub(crate) fn has_member(self, found: &Record<'_>) -> bool
+        ensures { result ≡ is_member self (field_seen found.now) }
+    {
+        self.has_field(found.number)
+            && is_of_type(use_of_field(self.owner(), found.number), &found.payload)
+    }
+
+    // The message that has the oneof.
+    fn owner(self) -> Shape
+        ensures { result ≡ owner self }
+    {
+        match self {
+            OneOf::PlanRelType => Shape::PlanRel,
+            OneOf::EmitKind => Shape::RelCommon,
+            OneOf::ReadType => Shape::ReadRel,
+            OneOf::PathType => Shape::FileItem,
+            OneOf::OffsetMode | OneOf::CountMode => Shape::FetchRel,
+            OneOf::RelType => Shape::Rel,
+            OneOf::ArgumentType => Shape::FunctionArgument,
+            OneOf::RexType => Shape::Expression,
+            OneOf::LiteralType => Shape::Literal,
+            OneOf::TypeKind => Shape::DataType,
+            OneOf::SubqueryType => Shape::Subquery,
+        }
+    }
+
+    // Whether the number is one of a member.
+    fn has_field(self, number: u32) -> bool
+        ensures { result ≡ has_number self number }
+    {
+        match self {
+            OneOf::PlanRelType | OneOf::EmitKind => number == 1 || number == 2,
+            OneOf::ReadType => number == 5 || number == 6 || number == 7,
+            OneOf::PathType => number == 1 || number == 3,
+            OneOf::OffsetMode => number == 3 || number == 5,
+            OneOf::CountMode => number == 4 || number == 6,
+            OneOf::ArgumentType => number == 1 || number == 2 || number == 3,
+            OneOf::LiteralType => !(number == 50 || number == 51),
+            OneOf::RelType | OneOf::RexType | OneOf::TypeKind | OneOf::SubqueryType => true,
+        }
+    }
+}
+
+// Whether a payload has the wire type of its field.
+fn is_of_type(holds: Use, payload: &Payload<'_>) -> bool
+    ensures { result ≡ has_wire_type holds (content_of payload.now) }
+{
+    match holds {
+        Use::Unnamed => true,
+        Use::Number => matches!(payload, Payload::Varint(_)),
+        Use::Numbers => matches!(payload, Payload::Varint(_) | Payload::Bytes(_)),
+        Use::Text | Use::Bytes | Use::Message(_) => matches!(payload, Payload::Bytes(_)),
+    }
+}
