@@ -31,7 +31,10 @@ fn places_in_the_plan(rt: HostRuntime) {
         // A relation of 3 bytes: its member of 1 byte, whose key has field number 1 and no value.
         (&[0x1A, 0x03, 0x12, 0x01, 0x0A], unreadable(4)),
         // A URI of 2 bytes that aren't UTF-8, behind an anchor.
-        (&[0x0A, 0x06, 0x08, 0x01, 0x12, 0x02, 0xC3, 0x28], unreadable(4)),
+        (
+            &[0x0A, 0x06, 0x08, 0x01, 0x12, 0x02, 0xC3, 0x28],
+            unreadable(4),
+        ),
         // The same bytes in a field that isn't named, and in a URI where the text is a number.
         (&[0x0A, 0x06, 0x08, 0x01, 0x1A, 0x02, 0xC3, 0x28], None),
         (&[0x0A, 0x02, 0x10, 0x05], None),
@@ -126,7 +129,11 @@ pub(crate) const THREE_ROWS: [u8; 53] = [
 #[test]
 fn each_prefix_of_a_plan_is_cut_at_its_start(rt: HostRuntime) {
     for len in 1..53 {
-        assert_eq!(rt; flaw_of(&THREE_ROWS[..len]), unreadable(0), "of {len} bytes");
+        assert_eq!(rt;
+            flaw_of(&THREE_ROWS[..len]),
+            unreadable(0),
+            "of {len} bytes"
+        );
     }
     assert_eq!(rt; flaw_of(&THREE_ROWS), None);
     assert_eq!(rt; flaw_of(&[]), None);

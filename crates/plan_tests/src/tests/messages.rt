@@ -94,8 +94,14 @@ fn packed_and_unpacked_numbers_mix(rt: HostRuntime) -> Result<(), Fail> {
         0xFF, 0xFF, 0xFF, 0x01, 0x28, 0x03, 0x2D, 0x01, 0x02, 0x03, 0x04, 0x2A, 0x00,
     ];
     let uri = first_uri(&rt, &bytes)?;
-    assert_eq!(rt; uri.int32s(rt.alloc(), 5)?.as_slice(), [1, 2, 150, -1, 3].as_slice());
-    assert_eq!(rt; uri.uint32s(rt.alloc(), 5)?.as_slice(), [1, 2, 150, 4_294_967_295, 3].as_slice());
+    assert_eq!(rt;
+        uri.int32s(rt.alloc(), 5)?.as_slice(),
+        [1, 2, 150, -1, 3].as_slice()
+    );
+    assert_eq!(rt;
+        uri.uint32s(rt.alloc(), 5)?.as_slice(),
+        [1, 2, 150, 4_294_967_295, 3].as_slice()
+    );
     assert!(rt; uri.int32s(rt.alloc(), 6)?.is_empty());
     Ok(())
 }
@@ -156,7 +162,8 @@ fn last_member_wins(rt: HostRuntime) -> Result<(), Fail> {
     assert!(rt; has_names(&rt, &bytes, &[b"c", b"d"])?);
     // A relation as a number, and another field, between two roots: neither is a member.
     let skipped = [
-        0x1A, 0x0E, 0x12, 0x03, 0x12, 0x01, 0x61, 0x08, 0x05, 0x1A, 0x00, 0x12, 0x03, 0x12, 0x01, 0x62,
+        0x1A, 0x0E, 0x12, 0x03, 0x12, 0x01, 0x61, 0x08, 0x05, 0x1A, 0x00, 0x12, 0x03, 0x12, 0x01,
+        0x62,
     ];
     assert!(rt; has_names(&rt, &skipped, &[b"a", b"b"])?);
     // A relation last.
