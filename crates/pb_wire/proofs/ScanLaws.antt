@@ -65,7 +65,7 @@ behind_of_next old new (Some (Ok found)) (here, (size, stand, moved)) =
     let entry = entry_of found size in
     let fits = stands_within old.bytes entry stand in
     let first : scan_of old ≡ behind_record found.place (entry_of found size) (scan_of new) =
-        scan-first old.place old.bytes entry stand fits.some fits.within ∙ ap (λ p. behind_record p entry (scan_from (old.place + size) (drop size old.bytes) 0)) (sym here) ∙ ap (λ rest. behind_record found.place entry (scan_of rest)) (sym moved) in
+    scan-first old.place old.bytes entry stand fits.some fits.within ∙ ap (λ p. behind_record p entry (scan_from (old.place + size) (drop size old.bytes) 0)) (sym here) ∙ ap (λ rest. behind_record found.place entry (scan_of rest)) (sym moved) in
     record {
       before = omega (arith, here, ap (λ r. r.place) moved);
       first = first ∙ ap (λ n. behind_record found.place (entry_of found n) (scan_of new)) (sym taken);

@@ -1,9 +1,15 @@
 -- The winner of a oneof, found while its records are read.
-use Rattle.std.proofs.Common.{◌≡◌, ◌∙◌, sym, ap, refl, ℕ, List, [], ◌∷◌, Bool, true, false, cond, Option, Some, None, map, filter, ◌||◌}
-use Rattle.std.specs.List.{last_or, list_any}
+use Rattle.std.proofs.Common.{◌≡◌, ◌∙◌, sym, ap, refl, subst, ℕ, List, [], ◌∷◌, Bool, true, false, cond, Option, Some, None, map, filter, ◌||◌, ◌&&◌, ◌==◌, ◌⊎◌, inl, inr, not, is_some}
+use Rattle.std.specs.List.{last_or, list_any, cons_option}
 use Rattle.std.specs.Option.{option_map}
-use Rattle.pb_wire.specs.Payloads.{Field, behind_last}
-use Rattle.plan_scan.specs.Member.{last_number}
+use Rattle.std.proofs.lemmas.Bool.{and_from, and_parts, or_cases, eq-eqb, eqb-true}
+use Rattle.pb_wire.specs.Records.{Content, Varint, Eight, Bytes, Four}
+use Rattle.pb_wire.specs.Payloads.{Field, Member, behind_last, is_other, block_in, blocks, joined, merged_message, chosen_member}
+use Rattle.plan_scan.specs.declared.shape.Shape.{Shape}
+use Rattle.plan_scan.specs.declared.shape.Use.TheVariants.{Message}
+use Rattle.plan_scan.specs.declared.oneof.OneOf.{OneOf}
+use Rattle.plan_scan.specs.Table.{use_of, HoldsMessage}
+use Rattle.plan_scan.specs.Member.{last_number, is_member, owner, has_number, has_wire_type, is_block}
 
 -- the number of the last member of those that are left, or else the one so far
 abbrev pub last_from : Option ℕ → (Field → Bool) → List Field → Option ℕ
@@ -45,3 +51,104 @@ since_skipped test since field fields e =
     chosen : (b : Bool) → cond b (cond b (behind_last test fields) (field ∷ fields)) since ≡ cond b (behind_last test fields) since
     chosen true = refl
     chosen false = refl
+
+-- a record of the member of this number
+abbrev pub is_winner : (Field → Bool) → ℕ → Field → Bool
+is_winner is_member number field = is_member field && (field.number == number)
+
+-- the last of the members is among the records, unless it came before them
+last_among : (is_member : Field → Bool) (before : Option Field) (fields : List Field) (last : Field) → last_or before (filter is_member fields) ≡ Some last → (list_any (is_winner is_member last.number) fields ≡ true) ⊎ (before ≡ Some last)
+last_among is_member before [] last e = inr e
+last_among is_member before (field ∷ fields) last e =
+    (elim (is_member field) as (λ b. is_member field ≡ b → last_or before (cond b (field ∷ filter is_member fields) (filter is_member fields)) ≡ Some last → (list_any (is_winner is_member last.number) (field ∷ fields) ≡ true) ⊎ (before ≡ Some last)) [
+      | true ↦ λ member h. (elim (last_among is_member (Some field) fields last h) [
+        | inl later ↦ inl (or_right (is_winner is_member last.number field) later)
+        | inr here ↦
+            let same : field ≡ last = cc in
+            let number : field.number ≡ last.number = ap (λ f. f.number) same in
+            inl (or_left (list_any (is_winner is_member last.number) fields) (and_from (is_member field) (field.number == last.number) member (eq-eqb field.number last.number number)))
+      ])
+      | false ↦ λ other h. (elim (last_among is_member before fields last h) [
+        | inl later ↦ inl (or_right (is_winner is_member last.number field) later)
+        | inr earlier ↦ inr earlier
+      ])
+    ]) refl e
+  where
+    or_right : (a : Bool) {b : Bool} → b ≡ true → (a || b) ≡ true
+    or_right true e = refl
+    or_right false e = e
+
+    or_left : {a : Bool} (b : Bool) → a ≡ true → (a || b) ≡ true
+    or_left b e = ap (λ a. a || b) e
+
+-- where there is no member, there is no other one
+no_other : (is_member : Field → Bool) (number : ℕ) (fields : List Field) → filter is_member fields ≡ [] → list_any (is_other is_member number) fields ≡ false
+no_other is_member number [] e = refl
+no_other is_member number (field ∷ fields) e =
+    (elim (is_member field) as (λ b. is_member field ≡ b → cond b (field ∷ filter is_member fields) (filter is_member fields) ≡ [] → list_any (is_other is_member number) (field ∷ fields) ≡ false) [
+      | true ↦ λ member h. cc
+      | false ↦ λ other h. ap (λ b. (b && not (field.number == number)) || list_any (is_other is_member number) fields) other ∙ no_other is_member number fields h
+    ]) refl e
+
+-- the last member, where members stand before it, is the last of the rest
+last_of_rest : (is_member : Field → Bool) (field : Field) (fields : List Field) (last : Field) → is_member field ≡ true → list_any (is_other is_member last.number) (field ∷ fields) ≡ true → last_or (Some field) (filter is_member fields) ≡ Some last → last_or None (filter is_member fields) ≡ Some last
+last_of_rest is_member field fields last member any e =
+    (elim (filter is_member fields) as (λ members. filter is_member fields ≡ members → last_or (Some field) members ≡ Some last → last_or None members ≡ Some last) [
+      | [] ↦ λ none h.
+          let same : field ≡ last = cc in
+          let number : (field.number == last.number) ≡ true = eq-eqb field.number last.number (ap (λ f. f.number) same) in
+          let here : is_other is_member last.number field ≡ false = ap (λ b. is_member field && not b) number ∙ ap (λ b. b && false) member in
+          let all : list_any (is_other is_member last.number) (field ∷ fields) ≡ false = ap (λ b. b || list_any (is_other is_member last.number) fields) here ∙ no_other is_member last.number fields none in
+          cc
+      | next ∷ members ↦ λ some h. h
+    ]) refl e
+
+-- the winner is among the records from which it is read
+pub winner_behind : (is_member : Field → Bool) (fields : List Field) (last : Field) → last_or None (filter is_member fields) ≡ Some last → list_any (is_winner is_member last.number) (behind_last (is_other is_member last.number) fields) ≡ true
+winner_behind is_member [] last e = cc
+winner_behind is_member (field ∷ fields) last e =
+    (elim (list_any (is_other is_member last.number) (field ∷ fields)) as (λ b. list_any (is_other is_member last.number) (field ∷ fields) ≡ b → list_any (is_winner is_member last.number) (cond b (behind_last (is_other is_member last.number) fields) (field ∷ fields)) ≡ true) [
+      | true ↦ λ any. winner_behind is_member fields last (rest any)
+      | false ↦ λ none. elim (last_among is_member None (field ∷ fields) last e) [ inl h ↦ h | inr h ↦ cc ]
+    ]) refl
+  where
+    rest : list_any (is_other is_member last.number) (field ∷ fields) ≡ true → last_or None (filter is_member fields) ≡ Some last
+    rest any = (elim (is_member field) as (λ b. is_member field ≡ b → last_or None (cond b (field ∷ filter is_member fields) (filter is_member fields)) ≡ Some last → last_or None (filter is_member fields) ≡ Some last) [
+      | true ↦ λ member h. last_of_rest is_member field fields last member any h
+      | false ↦ λ other h. h
+    ]) refl e
+
+content_there : (number here : ℕ) (content : Content) (rest : List Field) → (here == number) ≡ true → is_block content ≡ true → is_some (joined (cons_option (block_in number (record { number = here; content = content })) (blocks number rest))) ≡ true
+content_there number here (Varint value) rest same block = cc
+content_there number here (Eight value) rest same block = cc
+content_there number here (Four value) rest same block = cc
+content_there number here (Bytes bytes) rest same block = ap (λ b. is_some (joined (cons_option (cond b (Some bytes) None) (blocks number rest)))) same
+
+more_there : (block : Option (List ℕ)) (rest : List (List ℕ)) → is_some (joined rest) ≡ true → is_some (joined (cons_option block rest)) ≡ true
+more_there None rest e = e
+more_there (Some bytes) rest e = refl
+
+-- a member that is a message is there among those records
+message_there : (oneof : OneOf) (number : ℕ) (inner : Shape) → HoldsMessage (owner oneof) number inner → (fields : List Field) → list_any (is_winner (is_member oneof) number) fields ≡ true → is_some (merged_message number fields) ≡ true
+message_there oneof number inner holds [] any = cc
+message_there oneof number inner holds (field ∷ fields) any = elim (or_cases (is_winner (is_member oneof) number field) (list_any (is_winner (is_member oneof) number) fields) any) [
+  | inl here ↦
+      let both = and_parts (is_member oneof field) (field.number == number) here in
+      let wire = (and_parts (has_number oneof field.number) (has_wire_type (use_of (owner oneof) field.number) field.content) both.0).1 in
+      let use_is : use_of (owner oneof) field.number ≡ Message inner = ap (use_of (owner oneof)) (eqb-true field.number number both.1) ∙ holds in
+      content_there number field.number field.content fields both.1 (ap (λ h. has_wire_type h field.content) (sym use_is) ∙ wire)
+  | inr later ↦ more_there (block_in number field) (blocks number fields) (message_there oneof number inner holds fields later)
+]
+
+pub winner_there : (oneof : OneOf) (inner : Shape) (fields : List Field) (won : Member) → chosen_member (is_member oneof) fields ≡ Some won → HoldsMessage (owner oneof) won.number inner → is_some (merged_message won.number won.records) ≡ true
+winner_there oneof inner fields won chosen holds =
+    (elim (last_or None (filter (is_member oneof) fields)) as (λ last. last_or None (filter (is_member oneof) fields) ≡ last → option_map (won_by oneof fields) last ≡ Some won → is_some (merged_message won.number won.records) ≡ true) [
+      | None ↦ λ none h. cc
+      | Some last ↦ λ some h.
+          let same : won_by oneof fields last ≡ won = cc in
+          let P : Member → Type 0 = λ m. HoldsMessage (owner oneof) m.number inner → is_some (merged_message m.number m.records) ≡ true in
+          subst P same (λ here. message_there oneof last.number inner here (behind_last (is_other (is_member oneof) last.number) fields) (winner_behind (is_member oneof) fields last some)) holds
+    ]) refl chosen
+  where
+    won_by : OneOf → List Field → Field → Member
+    won_by oneof fields last = record { number = last.number; records = behind_last (is_other (is_member oneof) last.number) fields }

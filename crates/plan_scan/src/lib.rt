@@ -4,6 +4,7 @@
 mod blocks;
 mod children;
 mod flaw;
+mod laws;
 mod message;
 mod oneof;
 mod records;
@@ -14,6 +15,7 @@ mod values;
 
 pub use children::Children;
 pub use flaw::Flaw;
+pub use laws::winner_is_there;
 pub use message::Message;
 pub use oneof::OneOf;
 pub use scan::flaw_of;

@@ -1,0 +1,264 @@
+// The payload rules, on messages that were worked out by hand.
+ghost use Rattle.std.specs.Prelude.{◌≡◌, IfOk, IfSome};
+
+use super::flaws::THREE_ROWS;
+use plan_scan::{Message, OneOf, Shape};
+use std::alloc::Global;
+use std::test::Fail;
+
+// The plan that the bytes are.
+fn plan<'a>(rt: &HostRuntime, bytes: &'a [u8]) -> Result<Message<'a>, Fail>
+    ensures { IfOk result (λ plan. plan.shape ≡ Shape.Plan) }
+{
+    Ok(Message::plan(rt.alloc(), bytes)?)
+}
+
+// The first URI of a plan, whose fields are an anchor 1 and a text 2.
+fn first_uri<'a>(rt: &HostRuntime, bytes: &'a [u8]) -> Result<Message<'a>, Fail>
+    ensures { IfOk result (λ uri. uri.shape ≡ Shape.ExtensionUri) }
+{
+    let plan = plan(rt, bytes)?;
+    let mut uris = plan.children(1, Shape::ExtensionUri);
+    match uris.next(rt.alloc()) {
+        Some(uri) => Ok(uri),
+        None => Err("no URI")?,
+    }
+}
+
+#[test]
+fn last_number_counts(rt: HostRuntime) -> Result<(), Fail> {
+    // The anchor 5, then 7, then as four bytes, as eight, and as a block, which are skipped.
+    let bytes = [
+        0x0A, 0x15, 0x08, 0x05, 0x08, 0x07, 0x0D, 0x01, 0x02, 0x03, 0x04, 0x09, 0x01, 0x02, 0x03,
+        0x04, 0x05, 0x06, 0x07, 0x08, 0x0A, 0x01, 0x09,
+    ];
+    let uri = first_uri(&rt, &bytes)?;
+    assert_eq!(rt; uri.uint32(1), 7);
+    assert_eq!(rt; uri.int32(1), 7);
+    // The field 2 is absent, and the field 1 is there as a block.
+    assert_eq!(rt; uri.uint32(2), 0);
+    assert_eq!(rt; uri.int64(2), 0);
+    assert!(rt; !uri.boolean(2));
+    assert!(rt; !uri.has(2));
+    assert!(rt; uri.has(1));
+    assert_eq!(rt; uri.bytes(1), [0x09].as_slice());
+    assert!(rt; uri.bytes(2).is_empty());
+    Ok(())
+}
+
+#[test]
+fn numbers_of_each_type(rt: HostRuntime) -> Result<(), Fail> {
+    // -1 in ten bytes; 2^32 + 1; 2; 0.
+    let bytes = [
+        0x0A, 0x15, 0x08, 0xFF, 0xFF, 0xFF, 0xFF, 0xFF, 0xFF, 0xFF, 0xFF, 0xFF, 0x01, 0x18, 0x81,
+        0x80, 0x80, 0x80, 0x10, 0x20, 0x02, 0x28, 0x00,
+    ];
+    let uri = first_uri(&rt, &bytes)?;
+    assert_eq!(rt; uri.uint32(1), 4_294_967_295);
+    assert_eq!(rt; uri.int32(1), -1);
+    assert_eq!(rt; uri.int64(1), -1);
+    assert!(rt; uri.boolean(1));
+    assert_eq!(rt; uri.uint32(3), 1);
+    assert_eq!(rt; uri.int32(3), 1);
+    assert_eq!(rt; uri.int64(3), 4_294_967_297);
+    assert!(rt; uri.boolean(3));
+    assert!(rt; uri.boolean(4));
+    assert!(rt; !uri.boolean(5));
+    Ok(())
+}
+
+#[test]
+fn last_text_counts(rt: HostRuntime) -> Result<(), Fail> {
+    // The texts `a` and `bc` with a field between them that isn't named.
+    let bytes = [
+        0x0A, 0x0B, 0x12, 0x01, 0x61, 0x1A, 0x02, 0xC3, 0x28, 0x12, 0x02, 0x62, 0x63,
+    ];
+    let uri = first_uri(&rt, &bytes)?;
+    assert_eq!(rt; uri.text(rt.alloc(), 2)?.text(), "bc");
+    assert_eq!(rt; uri.byte_list(rt.alloc(), 2)?.bytes(), b"bc".as_slice());
+    let texts = uri.texts(rt.alloc(), 2)?;
+    assert_eq!(rt; texts.len(), 2);
+    assert_eq!(rt; texts[0].bytes(), b"a".as_slice());
+    assert_eq!(rt; texts[1].bytes(), b"bc".as_slice());
+    let none = first_uri(&rt, &[0x0A, 0x00])?;
+    assert_eq!(rt; none.text(rt.alloc(), 2)?.text(), "");
+    assert!(rt; none.texts(rt.alloc(), 2)?.is_empty());
+    Ok(())
+}
+
+#[test]
+fn packed_and_unpacked_numbers_mix(rt: HostRuntime) -> Result<(), Fail> {
+    // In field 5: 1; then 2, 150 and -1 packed; then 3; then four bytes, which are skipped; then none packed.
+    let bytes = [
+        0x0A, 0x1A, 0x28, 0x01, 0x2A, 0x0D, 0x02, 0x96, 0x01, 0xFF, 0xFF, 0xFF, 0xFF, 0xFF, 0xFF,
+        0xFF, 0xFF, 0xFF, 0x01, 0x28, 0x03, 0x2D, 0x01, 0x02, 0x03, 0x04, 0x2A, 0x00,
+    ];
+    let uri = first_uri(&rt, &bytes)?;
+    assert_eq!(rt;
+        uri.int32s(rt.alloc(), 5)?.as_slice(),
+        [1, 2, 150, -1, 3].as_slice()
+    );
+    assert_eq!(rt;
+        uri.uint32s(rt.alloc(), 5)?.as_slice(),
+        [1, 2, 150, 4_294_967_295, 3].as_slice()
+    );
+    assert!(rt; uri.int32s(rt.alloc(), 6)?.is_empty());
+    Ok(())
+}
+
+// The root of the first relation of a plan, whose fields are an input 1 and names 2.
+fn first_root<'a>(rt: &HostRuntime, bytes: &'a [u8]) -> Result<Option<Message<'a>>, Fail>
+    ensures { IfOk result (λ found. IfSome found (λ root. root.shape ≡ Shape.RelRoot)) }
+{
+    let plan = plan(rt, bytes)?;
+    let mut relations = plan.children(3, Shape::PlanRel);
+    let Some(relation) = relations.next(rt.alloc()) else {
+        return Ok(None);
+    };
+    match relation.oneof(rt.alloc(), OneOf::PlanRelType)? {
+        Some((2, won)) => Ok(won.message(rt.alloc(), 2, Shape::RelRoot)?),
+        _ => Ok(None),
+    }
+}
+
+// Whether the first relation of a plan is a root with just these names.
+fn has_names(rt: &HostRuntime, bytes: &[u8], names: &[&[u8]]) -> Result<bool, Fail> {
+    let Some(root) = first_root(rt, bytes)? else {
+        return Ok(false);
+    };
+    let found = root.texts(rt.alloc(), 2)?;
+    if found.len() != names.len() {
+        return Ok(false);
+    }
+    for (name, want) in found.iter().zip(names) {
+        if name.bytes() != *want {
+            return Ok(false);
+        }
+    }
+    Ok(true)
+}
+
+#[test]
+fn singular_messages_are_merged(rt: HostRuntime) -> Result<(), Fail> {
+    // A root in three records, the second empty: the names `a` and `b`, none, and the name `c`.
+    let bytes = [
+        0x1A, 0x0F, 0x12, 0x06, 0x12, 0x01, 0x61, 0x12, 0x01, 0x62, 0x12, 0x00, 0x12, 0x03, 0x12,
+        0x01, 0x63,
+    ];
+    assert!(rt; has_names(&rt, &bytes, &[b"a", b"b", b"c"])?);
+    // A root that is there and empty, and none.
+    assert!(rt; has_names(&rt, &[0x1A, 0x02, 0x12, 0x00], &[])?);
+    assert!(rt; first_root(&rt, &[0x1A, 0x00])?.is_none());
+    Ok(())
+}
+
+#[test]
+fn last_member_wins(rt: HostRuntime) -> Result<(), Fail> {
+    // Roots with the names `a` and `b`; a relation; roots with the names `c` and `d`.
+    let bytes = [
+        0x1A, 0x16, 0x12, 0x03, 0x12, 0x01, 0x61, 0x12, 0x03, 0x12, 0x01, 0x62, 0x0A, 0x00, 0x12,
+        0x03, 0x12, 0x01, 0x63, 0x12, 0x03, 0x12, 0x01, 0x64,
+    ];
+    assert!(rt; has_names(&rt, &bytes, &[b"c", b"d"])?);
+    // A relation as a number, and another field, between two roots: neither is a member.
+    let skipped = [
+        0x1A, 0x0E, 0x12, 0x03, 0x12, 0x01, 0x61, 0x08, 0x05, 0x1A, 0x00, 0x12, 0x03, 0x12, 0x01,
+        0x62,
+    ];
+    assert!(rt; has_names(&rt, &skipped, &[b"a", b"b"])?);
+    // A relation last.
+    let relation = [0x1A, 0x04, 0x12, 0x00, 0x0A, 0x00];
+    assert!(rt; first_root(&rt, &relation)?.is_none());
+    Ok(())
+}
+
+// The number of the winner among the members of the first relation, and how many names its read has: 0 where it isn't one.
+fn relation_of(rt: &HostRuntime, bytes: &[u8]) -> Result<(u32, usize), Fail> {
+    let Some(root) = first_root(rt, bytes)? else {
+        return Ok((0, 0));
+    };
+    let Some(relation) = root.message(rt.alloc(), 1, Shape::Rel)? else {
+        return Ok((0, 0));
+    };
+    let Some((number, won)) = relation.oneof(rt.alloc(), OneOf::RelType)? else {
+        return Ok((0, 0));
+    };
+    let Some(read) = won.message(rt.alloc(), 1, Shape::ReadRel)? else {
+        return Ok((number, 0));
+    };
+    let Some(schema) = read.message(rt.alloc(), 2, Shape::NamedStruct)? else {
+        return Ok((number, 0));
+    };
+    Ok((number, schema.texts(rt.alloc(), 1)?.len()))
+}
+
+#[test]
+fn the_second_read_alone(rt: HostRuntime) -> Result<(), Fail> {
+    assert_eq!(rt; relation_of(&rt, &THREE_ROWS)?, (1, 1));
+    // A read of the names `a` and `b`, a filter, and a read of the name `c`.
+    let bytes = [
+        0x1A, 0x17, 0x12, 0x15, 0x0A, 0x13, 0x0A, 0x08, 0x12, 0x06, 0x0A, 0x01, 0x61, 0x0A, 0x01,
+        0x62, 0x12, 0x00, 0x0A, 0x05, 0x12, 0x03, 0x0A, 0x01, 0x63,
+    ];
+    assert_eq!(rt; relation_of(&rt, &bytes)?, (1, 1));
+    // Two reads without a filter between them, and a member that isn't known at the end.
+    let merged = [
+        0x1A, 0x15, 0x12, 0x13, 0x0A, 0x11, 0x0A, 0x08, 0x12, 0x06, 0x0A, 0x01, 0x61, 0x0A, 0x01,
+        0x62, 0x0A, 0x05, 0x12, 0x03, 0x0A, 0x01, 0x63,
+    ];
+    assert_eq!(rt; relation_of(&rt, &merged)?, (1, 3));
+    let unknown = [0x1A, 0x08, 0x12, 0x06, 0x0A, 0x04, 0x0A, 0x00, 0x68, 0x05];
+    assert_eq!(rt; relation_of(&rt, &unknown)?, (13, 0));
+    Ok(())
+}
+
+// The number of the winner among the members of the literal in the condition of a filter, or 0 where it has none.
+fn literal_of(rt: &HostRuntime, bytes: &[u8]) -> Result<u32, Fail> {
+    let plan = plan(rt, bytes)?;
+    let mut relations = plan.children(3, Shape::PlanRel);
+    let Some(relation) = relations.next(rt.alloc()) else {
+        return Ok(0);
+    };
+    let Some(rel) = relation.message(rt.alloc(), 1, Shape::Rel)? else {
+        return Ok(0);
+    };
+    let Some(filter) = rel.message(rt.alloc(), 2, Shape::FilterRel)? else {
+        return Ok(0);
+    };
+    let Some(condition) = filter.message(rt.alloc(), 3, Shape::Expression)? else {
+        return Ok(0);
+    };
+    let Some(literal) = condition.message(rt.alloc(), 1, Shape::Literal)? else {
+        return Ok(0);
+    };
+    match literal.oneof(rt.alloc(), OneOf::LiteralType)? {
+        Some((number, _)) => Ok(number),
+        None => Ok(0),
+    }
+}
+
+#[test]
+fn members_of_a_literal(rt: HostRuntime) -> Result<(), Fail> {
+    // An i32, then `nullable`, which is no member.
+    let nullable = [
+        0x1A, 0x0D, 0x0A, 0x0B, 0x12, 0x09, 0x1A, 0x07, 0x0A, 0x05, 0x28, 0x07, 0x90, 0x03, 0x01,
+    ];
+    assert_eq!(rt; literal_of(&rt, &nullable)?, 5);
+    // An i32, then a boolean as a block, which is skipped.
+    let skipped = [
+        0x1A, 0x0C, 0x0A, 0x0A, 0x12, 0x08, 0x1A, 0x06, 0x0A, 0x04, 0x28, 0x07, 0x0A, 0x00,
+    ];
+    assert_eq!(rt; literal_of(&rt, &skipped)?, 5);
+    // An i32, then a number 4 that isn't known, as four bytes.
+    let unknown = [
+        0x1A, 0x0F, 0x0A, 0x0D, 0x12, 0x0B, 0x1A, 0x09, 0x0A, 0x07, 0x28, 0x07, 0x25, 0x01, 0x02,
+        0x03, 0x04,
+    ];
+    assert_eq!(rt; literal_of(&rt, &unknown)?, 4);
+    // Only `nullable`.
+    let none = [
+        0x1A, 0x0B, 0x0A, 0x09, 0x12, 0x07, 0x1A, 0x05, 0x0A, 0x03, 0x90, 0x03, 0x01,
+    ];
+    assert_eq!(rt; literal_of(&rt, &none)?, 0);
+    Ok(())
+}
