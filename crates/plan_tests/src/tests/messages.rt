@@ -25,84 +25,101 @@ fn first_uri<'a>(rt: &HostRuntime, bytes: &'a [u8]) -> Result<Message<'a>, Fail>
     }
 }
 
-#[test]
-fn last_number_counts(rt: HostRuntime) -> Result<(), Fail> {
-    // The anchor 5, then 7, then as four bytes, as eight, and as a block, which are skipped.
-    let bytes = [
-        0x0A, 0x15, 0x08, 0x05, 0x08, 0x07, 0x0D, 0x01, 0x02, 0x03, 0x04, 0x09, 0x01, 0x02, 0x03,
-        0x04, 0x05, 0x06, 0x07, 0x08, 0x0A, 0x01, 0x09,
-    ];
-    let uri = first_uri(&rt, &bytes)?;
-    assert_eq!(rt; uri.uint32(1), 7);
-    assert_eq!(rt; uri.int32(1), 7);
-    // The field 2 is absent, and the field 1 is there as a block.
-    assert_eq!(rt; uri.uint32(2), 0);
-    assert_eq!(rt; uri.int64(2), 0);
-    assert!(rt; !uri.boolean(2));
-    assert!(rt; !uri.has(2));
-    assert!(rt; uri.has(1));
-    assert_eq!(rt; uri.bytes(1), [0x09].as_slice());
-    assert!(rt; uri.bytes(2).is_empty());
-    Ok(())
+// The field 1 of the first URI as a number of each type.
+fn numbers_of(rt: &HostRuntime, bytes: &[u8]) -> Result<(u32, i32, i64, bool), Fail> {
+    let uri = first_uri(rt, bytes)?;
+    Ok((uri.uint32(1), uri.int32(1), uri.int64(1), uri.boolean(1)))
 }
 
 #[test]
 fn numbers_of_each_type(rt: HostRuntime) -> Result<(), Fail> {
-    // -1 in ten bytes; 2^32 + 1; 2; 0.
-    let bytes = [
-        0x0A, 0x15, 0x08, 0xFF, 0xFF, 0xFF, 0xFF, 0xFF, 0xFF, 0xFF, 0xFF, 0xFF, 0x01, 0x18, 0x81,
-        0x80, 0x80, 0x80, 0x10, 0x20, 0x02, 0x28, 0x00,
+    let uris: [(&[u8], (u32, i32, i64, bool)); 6] = [
+        // 5, then 7, then as four bytes, as eight, and as a block, which are skipped.
+        (
+            &[
+                0x0A, 0x15, 0x08, 0x05, 0x08, 0x07, 0x0D, 0x01, 0x02, 0x03, 0x04, 0x09, 0x01, 0x02,
+                0x03, 0x04, 0x05, 0x06, 0x07, 0x08, 0x0A, 0x01, 0x09,
+            ],
+            (7, 7, 7, true),
+        ),
+        // -1 in ten bytes.
+        (
+            &[
+                0x0A, 0x0B, 0x08, 0xFF, 0xFF, 0xFF, 0xFF, 0xFF, 0xFF, 0xFF, 0xFF, 0xFF, 0x01,
+            ],
+            (4_294_967_295, -1, -1, true),
+        ),
+        // 2^32 + 1.
+        (
+            &[0x0A, 0x06, 0x08, 0x81, 0x80, 0x80, 0x80, 0x10],
+            (1, 1, 4_294_967_297, true),
+        ),
+        (&[0x0A, 0x02, 0x08, 0x02], (2, 2, 2, true)),
+        (&[0x0A, 0x02, 0x08, 0x00], (0, 0, 0, false)),
+        // Absent, beside another field.
+        (&[0x0A, 0x02, 0x18, 0x05], (0, 0, 0, false)),
     ];
-    let uri = first_uri(&rt, &bytes)?;
-    assert_eq!(rt; uri.uint32(1), 4_294_967_295);
-    assert_eq!(rt; uri.int32(1), -1);
-    assert_eq!(rt; uri.int64(1), -1);
-    assert!(rt; uri.boolean(1));
-    assert_eq!(rt; uri.uint32(3), 1);
-    assert_eq!(rt; uri.int32(3), 1);
-    assert_eq!(rt; uri.int64(3), 4_294_967_297);
-    assert!(rt; uri.boolean(3));
-    assert!(rt; uri.boolean(4));
-    assert!(rt; !uri.boolean(5));
+    for (bytes, want) in uris {
+        assert_eq!(rt; numbers_of(&rt, bytes)?, want, "of {bytes:?}");
+    }
     Ok(())
+}
+
+// Whether the field 2 of the first URI has this last text, and so many texts.
+fn has_texts(rt: &HostRuntime, bytes: &[u8], last: &str, count: usize) -> Result<bool, Fail> {
+    let uri = first_uri(rt, bytes)?;
+    if uri.has(2) != (count > 0) || uri.bytes(2) != last.as_bytes() {
+        return Ok(false);
+    }
+    if uri.byte_list(rt.alloc(), 2)?.bytes() != last.as_bytes() {
+        return Ok(false);
+    }
+    Ok(uri.text(rt.alloc(), 2)?.text() == last && uri.texts(rt.alloc(), 2)?.len() == count)
 }
 
 #[test]
 fn last_text_counts(rt: HostRuntime) -> Result<(), Fail> {
     // The texts `a` and `bc` with a field between them that isn't named.
-    let bytes = [
+    let two = [
         0x0A, 0x0B, 0x12, 0x01, 0x61, 0x1A, 0x02, 0xC3, 0x28, 0x12, 0x02, 0x62, 0x63,
     ];
-    let uri = first_uri(&rt, &bytes)?;
-    assert_eq!(rt; uri.text(rt.alloc(), 2)?.text(), "bc");
-    assert_eq!(rt; uri.byte_list(rt.alloc(), 2)?.bytes(), b"bc".as_slice());
-    let texts = uri.texts(rt.alloc(), 2)?;
-    assert_eq!(rt; texts.len(), 2);
-    assert_eq!(rt; texts[0].bytes(), b"a".as_slice());
-    assert_eq!(rt; texts[1].bytes(), b"bc".as_slice());
-    let none = first_uri(&rt, &[0x0A, 0x00])?;
-    assert_eq!(rt; none.text(rt.alloc(), 2)?.text(), "");
-    assert!(rt; none.texts(rt.alloc(), 2)?.is_empty());
+    assert!(rt; has_texts(&rt, &two, "bc", 2)?);
+    // The text as a number, which is skipped.
+    assert!(rt; has_texts(&rt, &[0x0A, 0x02, 0x10, 0x05], "", 0)?);
+    assert!(rt; has_texts(&rt, &[0x0A, 0x02, 0x12, 0x00], "", 1)?);
     Ok(())
+}
+
+// Whether the field 5 of the first URI has these numbers.
+fn has_numbers(
+    rt: &HostRuntime,
+    bytes: &[u8],
+    signed: &[i32],
+    unsigned: &[u32],
+) -> Result<bool, Fail> {
+    let uri = first_uri(rt, bytes)?;
+    if uri.int32s(rt.alloc(), 5)?.as_slice() != signed {
+        return Ok(false);
+    }
+    Ok(uri.uint32s(rt.alloc(), 5)?.as_slice() == unsigned)
 }
 
 #[test]
 fn packed_and_unpacked_numbers_mix(rt: HostRuntime) -> Result<(), Fail> {
-    // In field 5: 1; then 2, 150 and -1 packed; then 3; then four bytes, which are skipped; then none packed.
+    // 1; then 2, 150 and -1 packed; then 3; then four bytes, which are skipped; then none packed.
     let bytes = [
         0x0A, 0x1A, 0x28, 0x01, 0x2A, 0x0D, 0x02, 0x96, 0x01, 0xFF, 0xFF, 0xFF, 0xFF, 0xFF, 0xFF,
         0xFF, 0xFF, 0xFF, 0x01, 0x28, 0x03, 0x2D, 0x01, 0x02, 0x03, 0x04, 0x2A, 0x00,
     ];
-    let uri = first_uri(&rt, &bytes)?;
-    assert_eq!(rt;
-        uri.int32s(rt.alloc(), 5)?.as_slice(),
-        [1, 2, 150, -1, 3].as_slice()
+    assert!(rt;
+        has_numbers(
+            &rt,
+            &bytes,
+            &[1, 2, 150, -1, 3],
+            &[1, 2, 150, 4_294_967_295, 3]
+        )?
     );
-    assert_eq!(rt;
-        uri.uint32s(rt.alloc(), 5)?.as_slice(),
-        [1, 2, 150, 4_294_967_295, 3].as_slice()
-    );
-    assert!(rt; uri.int32s(rt.alloc(), 6)?.is_empty());
+    assert!(rt; has_numbers(&rt, &[0x0A, 0x00], &[], &[])?);
     Ok(())
 }
 
@@ -194,21 +211,33 @@ fn relation_of(rt: &HostRuntime, bytes: &[u8]) -> Result<(u32, usize), Fail> {
 
 #[test]
 fn the_second_read_alone(rt: HostRuntime) -> Result<(), Fail> {
-    assert_eq!(rt; relation_of(&rt, &THREE_ROWS)?, (1, 1));
-    // A read of the names `a` and `b`, a filter, and a read of the name `c`.
-    let bytes = [
-        0x1A, 0x17, 0x12, 0x15, 0x0A, 0x13, 0x0A, 0x08, 0x12, 0x06, 0x0A, 0x01, 0x61, 0x0A, 0x01,
-        0x62, 0x12, 0x00, 0x0A, 0x05, 0x12, 0x03, 0x0A, 0x01, 0x63,
+    let plans: [(&[u8], (u32, usize)); 4] = [
+        (&THREE_ROWS, (1, 1)),
+        // A read of the names `a` and `b`, a filter, and a read of the name `c`.
+        (
+            &[
+                0x1A, 0x17, 0x12, 0x15, 0x0A, 0x13, 0x0A, 0x08, 0x12, 0x06, 0x0A, 0x01, 0x61, 0x0A,
+                0x01, 0x62, 0x12, 0x00, 0x0A, 0x05, 0x12, 0x03, 0x0A, 0x01, 0x63,
+            ],
+            (1, 1),
+        ),
+        // The reads without a filter between them.
+        (
+            &[
+                0x1A, 0x15, 0x12, 0x13, 0x0A, 0x11, 0x0A, 0x08, 0x12, 0x06, 0x0A, 0x01, 0x61, 0x0A,
+                0x01, 0x62, 0x0A, 0x05, 0x12, 0x03, 0x0A, 0x01, 0x63,
+            ],
+            (1, 3),
+        ),
+        // A read, and a member 13 that isn't known.
+        (
+            &[0x1A, 0x08, 0x12, 0x06, 0x0A, 0x04, 0x0A, 0x00, 0x68, 0x05],
+            (13, 0),
+        ),
     ];
-    assert_eq!(rt; relation_of(&rt, &bytes)?, (1, 1));
-    // Two reads without a filter between them, and a member that isn't known at the end.
-    let merged = [
-        0x1A, 0x15, 0x12, 0x13, 0x0A, 0x11, 0x0A, 0x08, 0x12, 0x06, 0x0A, 0x01, 0x61, 0x0A, 0x01,
-        0x62, 0x0A, 0x05, 0x12, 0x03, 0x0A, 0x01, 0x63,
-    ];
-    assert_eq!(rt; relation_of(&rt, &merged)?, (1, 3));
-    let unknown = [0x1A, 0x08, 0x12, 0x06, 0x0A, 0x04, 0x0A, 0x00, 0x68, 0x05];
-    assert_eq!(rt; relation_of(&rt, &unknown)?, (13, 0));
+    for (bytes, want) in plans {
+        assert_eq!(rt; relation_of(&rt, bytes)?, want, "of {bytes:?}");
+    }
     Ok(())
 }
 
@@ -239,26 +268,40 @@ fn literal_of(rt: &HostRuntime, bytes: &[u8]) -> Result<u32, Fail> {
 
 #[test]
 fn members_of_a_literal(rt: HostRuntime) -> Result<(), Fail> {
-    // An i32, then `nullable`, which is no member.
-    let nullable = [
-        0x1A, 0x0D, 0x0A, 0x0B, 0x12, 0x09, 0x1A, 0x07, 0x0A, 0x05, 0x28, 0x07, 0x90, 0x03, 0x01,
+    let plans: [(&[u8], u32); 4] = [
+        // An i32, then `nullable`, which is no member.
+        (
+            &[
+                0x1A, 0x0D, 0x0A, 0x0B, 0x12, 0x09, 0x1A, 0x07, 0x0A, 0x05, 0x28, 0x07, 0x90, 0x03,
+                0x01,
+            ],
+            5,
+        ),
+        // An i32, then a boolean as a block, which is skipped.
+        (
+            &[
+                0x1A, 0x0C, 0x0A, 0x0A, 0x12, 0x08, 0x1A, 0x06, 0x0A, 0x04, 0x28, 0x07, 0x0A, 0x00,
+            ],
+            5,
+        ),
+        // An i32, then a number 4 that isn't known, as four bytes.
+        (
+            &[
+                0x1A, 0x0F, 0x0A, 0x0D, 0x12, 0x0B, 0x1A, 0x09, 0x0A, 0x07, 0x28, 0x07, 0x25, 0x01,
+                0x02, 0x03, 0x04,
+            ],
+            4,
+        ),
+        // Only `nullable`.
+        (
+            &[
+                0x1A, 0x0B, 0x0A, 0x09, 0x12, 0x07, 0x1A, 0x05, 0x0A, 0x03, 0x90, 0x03, 0x01,
+            ],
+            0,
+        ),
     ];
-    assert_eq!(rt; literal_of(&rt, &nullable)?, 5);
-    // An i32, then a boolean as a block, which is skipped.
-    let skipped = [
-        0x1A, 0x0C, 0x0A, 0x0A, 0x12, 0x08, 0x1A, 0x06, 0x0A, 0x04, 0x28, 0x07, 0x0A, 0x00,
-    ];
-    assert_eq!(rt; literal_of(&rt, &skipped)?, 5);
-    // An i32, then a number 4 that isn't known, as four bytes.
-    let unknown = [
-        0x1A, 0x0F, 0x0A, 0x0D, 0x12, 0x0B, 0x1A, 0x09, 0x0A, 0x07, 0x28, 0x07, 0x25, 0x01, 0x02,
-        0x03, 0x04,
-    ];
-    assert_eq!(rt; literal_of(&rt, &unknown)?, 4);
-    // Only `nullable`.
-    let none = [
-        0x1A, 0x0B, 0x0A, 0x09, 0x12, 0x07, 0x1A, 0x05, 0x0A, 0x03, 0x90, 0x03, 0x01,
-    ];
-    assert_eq!(rt; literal_of(&rt, &none)?, 0);
+    for (bytes, want) in plans {
+        assert_eq!(rt; literal_of(&rt, bytes)?, want, "of {bytes:?}");
+    }
     Ok(())
 }
