@@ -1,0 +1,5 @@
+//! Tests of the reading of plans.
+#![tactic(auto)]
+
+#[cfg(test)]
+mod tests;

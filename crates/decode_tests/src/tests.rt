@@ -1,0 +1,5 @@
+// Plans against trees that were worked out by hand.
+mod flaws;
+mod plans;
+mod seen;
+mod trees;
