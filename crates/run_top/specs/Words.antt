@@ -1,5 +1,6 @@
 -- What the words of a command line mean.
-use Rattle.std.specs.Prelude.{◌≡◌, ◌≤◌, ℕ, List, [], ◌∷◌, Bool, Option, Some, None, if◌then◌else◌, ◌&&◌, not, nat_le, codes, decimal}
+use Rattle.std.specs.Prelude.{◌≡◌, ◌≤◌, ℕ, List, [], ◌∷◌, Bool, Option, Some, None, if◌then◌else◌, ◌&&◌, not, ◌==◌, nat_le, length, codes, decimal}
+use Rattle.std.specs.List.{list_all, before_first, after_first}
 use Rattle.std.specs.Option.{option_map}
 use Rattle.std.specs.Str.{bytes_eq}
 use Rattle.std.specs.Str.Parse.{digits_value}
@@ -14,20 +15,44 @@ number_within most word =
     let n = digits_value 10 word in
     if bytes_eq (decimal n) word && nat_le 1 n && nat_le n most then Some n else None
 
--- `run` of a plan file into an out file on so many workers
+-- the byte is an equals sign
+abbrev pub is_equals : ℕ → Bool
+is_equals byte = byte == 61
+
+-- the name of a binding, before its first equals sign, and its file, after it
+abbrev pub name_in : List ℕ → List ℕ
+name_in word = before_first is_equals word
+
+abbrev pub file_in : List ℕ → List ℕ
+file_in word = after_first is_equals word
+
+-- the most bindings
+abbrev pub MAX_BINDINGS : ℕ
+MAX_BINDINGS = 1024
+
+-- `run` of a plan file into an out file on so many workers, and the words that bind names to files
 pub record Reading : Type 0 where
   pub plan : List ℕ
   pub out : List ℕ
   pub workers : ℕ
+  pub bindings : List (List ℕ)
 
 -- both files are named, and by two names
 abbrev pub are_names : List ℕ → List ℕ → Bool
 are_names plan out = not (bytes_eq plan []) && not (bytes_eq out []) && not (bytes_eq out plan)
 
--- `run PLAN OUT WORKERS`, with 1 to 64 workers
+-- the word binds a name to a file, which isn't the out file
+abbrev pub is_binding : List ℕ → List ℕ → Bool
+is_binding out word = not (bytes_eq (name_in word) []) && not (bytes_eq (file_in word) []) && not (bytes_eq (file_in word) out)
+
+-- there are 1,024 bindings at most
+abbrev pub are_bindings : List ℕ → List (List ℕ) → Bool
+are_bindings out words = nat_le (length words) MAX_BINDINGS && list_all (is_binding out) words
+
+-- `run PLAN OUT WORKERS NAME=FILE..`, with 1 to 64 workers
 unfoldable pub reading_of : List (List ℕ) → Option Reading
-reading_of (command ∷ plan ∷ out ∷ workers ∷ []) =
-    if bytes_eq command (codes "run") && are_names plan out
-    then option_map (λ n. record { plan = plan; out = out; workers = n }) (number_within 64 workers)
+reading_of (command ∷ plan ∷ out ∷ workers ∷ bindings) =
+    if bytes_eq command (codes "run") && are_names plan out && are_bindings out bindings
+    then option_map (λ n. record { plan = plan; out = out; workers = n; bindings = bindings }) (number_within 64 workers)
     else None
 reading_of _ = None

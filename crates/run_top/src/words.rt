@@ -1,7 +1,8 @@
 // The words of a command line, read by position.
 ghost use Rattle.std.specs.Prelude.{◌≡◌, ◌≤◌, ◌↔◌, IsTrue, IfSome};
+ghost use Rattle.std.specs.List.{list_all};
 ghost use Rattle.std.specs.Option.{option_map};
-ghost use Rattle.run_top.specs.Words.{number_within, IsNumber, are_names, reading_of};
+ghost use Rattle.run_top.specs.Words.{number_within, IsNumber, are_names, is_binding, are_bindings, reading_of};
 ghost use Rattle.run_top.specs.ReadingSeen.{reading_seen};
 
 use itoa::Buffer;
@@ -10,12 +11,16 @@ use sub_types::Word;
 /// The most workers of a run.
 const MAX_WORKERS: u32 = 64;
 
-/// `run` of a plan file into an out file on so many workers.
+/// The most bindings of a run.
+const MAX_BINDINGS: usize = 1024;
+
+/// `run` of a plan file into an out file on so many workers, and the words that bind names to files.
 #[derive(Clone, Copy, Debug)]
 pub(crate) struct Reading<'a> {
     pub(crate) plan: &'a str,
     pub(crate) out: &'a str,
     pub(crate) workers: u32,
+    pub(crate) bindings: &'a [Word],
 }
 
 /// What the words say, or `None` where they have no reading.
@@ -24,10 +29,13 @@ pub(crate) fn read_words<'a>(words: &'a [Word]) -> Option<Reading<'a>>
     ensures reading { option_map reading_seen result ≡ reading_of words.entry.now }
     ensures workers { IfSome result (λ reading. 1 ≤ reading.workers) }
 {
-    let [command, plan, out, workers] = words else {
+    let [command, plan, out, workers, bindings @ ..] = words else {
         return None;
     };
-    if command.text() != "run" || !names_two_files(plan.text(), out.text()) {
+    if command.text() != "run"
+        || !names_two_files(plan.text(), out.text())
+        || !binds_all(bindings, out.text())
+    {
         return None;
     }
     let workers = number(workers.text(), MAX_WORKERS)?;
@@ -35,6 +43,7 @@ pub(crate) fn read_words<'a>(words: &'a [Word]) -> Option<Reading<'a>>
         plan: plan.text(),
         out: out.text(),
         workers,
+        bindings,
     })
 }
 
@@ -43,6 +52,35 @@ fn names_two_files(plan: &str, out: &str) -> bool
     ensures { result ≡ are_names plan.now out.now }
 {
     !plan.is_empty() && !out.is_empty() && out != plan
+}
+
+// The words bind names to files other than the out file, and aren't too many.
+fn binds_all(words: &[Word], out: &str) -> bool
+    ensures { result ≡ are_bindings out.now words.now }
+{
+    words.len() <= MAX_BINDINGS && all_bind(words, out)
+}
+
+// Each of the words does.
+fn all_bind(words: &[Word], out: &str) -> bool
+    ensures { result ≡ list_all (is_binding out.now) words.now }
+{
+    for word in words.iter() {
+        if !binds(word.text(), out) {
+            return false;
+        }
+    }
+    true
+}
+
+// The word binds a name to a file, which isn't the out file.
+fn binds(word: &str, out: &str) -> bool
+    ensures { result ≡ is_binding out.now word.now }
+{
+    let Some((name, file)) = word.split_once('=') else {
+        return false;
+    };
+    !name.is_empty() && !file.is_empty() && file != out
 }
 
 // The number from 1 to `most` whose decimal digits are the word.

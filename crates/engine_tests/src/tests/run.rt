@@ -82,7 +82,7 @@ const USAGE: &[u8] =
 
 #[test]
 fn faulty_words(rt: HostRuntime) -> Result<(), Fail> {
-    let faulty: [&[&str]; 12] = [
+    let faulty: [&[&str]; 17] = [
         &["run", "p", "o", "0"],
         &["run", "p", "o", "65"],
         &["run", "p", "o", "04"],
@@ -91,7 +91,12 @@ fn faulty_words(rt: HostRuntime) -> Result<(), Fail> {
         &["run", "", "o", "1"],
         &["run", "p", "", "1"],
         &["run", "p", "o", "1", "t="],
+        &["run", "p", "o", "1", "=f"],
+        &["run", "p", "o", "1", "="],
+        &["run", "p", "o", "1", "t"],
+        &["run", "p", "o", "1", ""],
         &["run", "p", "o", "1", "t=o"],
+        &["run", "p", "o", "1", "s=f", "t=o"],
         &["check", "p"],
         &["fly"],
         &[],
@@ -102,6 +107,58 @@ fn faulty_words(rt: HostRuntime) -> Result<(), Fail> {
         assert!(rt; answer.is(2, USAGE));
         assert!(rt; out_is(&folder, None));
     }
+    Ok(())
+}
+
+// The plan names no table, so that the files of the bindings needn't be there. Each word is split at its first `=`.
+#[test]
+fn bindings_that_no_table_names(rt: HostRuntime) -> Result<(), Fail> {
+    let words = ["run", "p", "o", "1", "t=f", "t=f=o", "o=p", "t=="];
+    let mut folder = folder_with(rt.alloc(), &THREE_ROW_PLAN, None)?;
+    let answer = answered(&rt, rt.alloc(), &mut folder, &words)?;
+    assert!(rt;
+        answer.is_ok(
+            b"ok 3 rows\n",
+            Counts {
+                rows: 3,
+                batches: 1,
+                workers: 1
+            }
+        )
+    );
+    assert!(rt; out_is(&folder, Some(&THREE_ROW_FILE)));
+    Ok(())
+}
+
+// The words of a run, and so many bindings.
+fn bound_words(alloc: Global, bindings: usize) -> Result<Vec<&'static str>, NoMemory> {
+    let mut words = Vec::new(alloc);
+    words.extend_from_slice(&RUN)?;
+    for _ in 0..bindings {
+        words.push("t=f")?;
+    }
+    Ok(words)
+}
+
+#[test]
+fn most_bindings(rt: HostRuntime) -> Result<(), Fail> {
+    let mut folder = folder_with(rt.alloc(), &THREE_ROW_PLAN, None)?;
+    let words = bound_words(rt.alloc(), 1024)?;
+    let answer = answered(&rt, rt.alloc(), &mut folder, &words)?;
+    assert!(rt; out_is(&folder, Some(&THREE_ROW_FILE)));
+    assert!(rt;
+        answer.is_ok(
+            b"ok 3 rows\n",
+            Counts {
+                rows: 3,
+                batches: 1,
+                workers: 1
+            }
+        )
+    );
+    let words = bound_words(rt.alloc(), 1025)?;
+    let answer = answered(&rt, rt.alloc(), &mut folder, &words)?;
+    assert!(rt; answer.is(2, USAGE));
     Ok(())
 }
 
