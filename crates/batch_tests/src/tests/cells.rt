@@ -1,8 +1,7 @@
 // Values as they are expected.
 use batch::Batch;
-use std::process::Abort;
-use std::test::Fail;
-use sub_types::Value;
+use std::alloc::Global;
+use sub_types::{NoMemory, Value};
 
 #[derive(Clone, Copy, Debug)]
 pub(super) enum Cell<'a> {
@@ -24,18 +23,24 @@ fn is_cell(value: &Value, cell: &Cell<'_>) -> bool {
     }
 }
 
-// The column of the batch holds these values.
-pub(super) fn assert_cells(
-    rt: &(impl Abort + AllocGlobal),
+/// Whether the column of the batch holds these values.
+pub(super) fn are_cells(
+    alloc: Global,
     batch: &Batch,
     column: usize,
     cells: &[Cell<'_>],
-) -> Result<(), Fail> {
-    assert_eq!(rt; batch.rows, cells.len() as u64);
-    for (row, cell) in cells.iter().enumerate() {
-        assert!(rt; column < batch.columns.len() && (row as u64) < batch.rows);
-        let value = batch.value_at(rt.alloc(), column, row as u64)?;
-        assert!(rt; is_cell(&value, cell), "{value:?} is not {cell:?} at {row}");
+) -> Result<bool, NoMemory> {
+    if batch.rows != cells.len() as u64 || column >= batch.columns.len() {
+        return Ok(false);
     }
-    Ok(())
+    for (row, cell) in cells.iter().enumerate() {
+        if row as u64 >= batch.rows {
+            return Ok(false);
+        }
+        let value = batch.value_at(alloc, column, row as u64)?;
+        if !is_cell(&value, cell) {
+            return Ok(false);
+        }
+    }
+    Ok(true)
 }

@@ -121,35 +121,53 @@ fn wide_block(
     decode_texts(alloc, wide, &meta, body)
 }
 
+// Whether the block has these two texts, or is bad where none are given.
+fn are_two(block: Option<TextCol>, want: Option<(Option<&str>, Option<&str>)>) -> bool {
+    match (block, want) {
+        (None, None) => true,
+        (Some(texts), Some((first, second))) => {
+            texts.len() == 2 && is_value(&texts, 0, first) && is_value(&texts, 1, second)
+        }
+        _ => false,
+    }
+}
+
 #[test]
-fn wide_texts(rt: HostRuntime) -> Result<(), Fail> {
-    let alloc = rt.alloc();
-    let buffers = [(0, 1), (1, 24), (25, 3)];
-    let texts = wide_block(alloc, true, &[(2, 1)], &buffers)?.ok_or("a bad block")?;
-    assert_eq!(rt; texts.len(), 2);
-    assert!(rt; is_value(&texts, 0, None) && is_value(&texts, 1, Some("hi")));
-    let all_valid = [(0, 0), (1, 24), (25, 3)];
-    assert!(rt; wide_block(alloc, true, &[(2, 0)], &all_valid)?.is_none());
-    assert!(rt; wide_block(alloc, true, &[(1, 0)], &buffers)?.is_none());
-    assert!(rt; wide_block(alloc, true, &[], &buffers)?.is_none());
-    assert!(rt; wide_block(alloc, true, &[(2, 0)], &buffers[..2])?.is_none());
-    assert!(rt; wide_block(alloc, true, &[(2, 0)], &[(0, 1), (1, 24), (25, 4)])?.is_none());
-    let behind = [(0, 1), (1, 24), (26, 2)];
-    let small = wide_block(alloc, false, &[(2, 1)], &behind)?.ok_or("a bad block")?;
-    assert!(rt; is_value(&small, 0, None) && is_value(&small, 1, Some("h")));
+fn wide_blocks(rt: HostRuntime) -> Result<(), Fail> {
+    let hi = Some((None, Some("hi")));
+    let h = Some((None, Some("h")));
+    let cases: [(
+        bool,
+        &[(i64, i64)],
+        &[(i64, i64)],
+        Option<(Option<&str>, Option<&str>)>,
+    ); 7] = [
+        (true, &[(2, 1)], &[(0, 1), (1, 24), (25, 3)], hi),
+        (true, &[(2, 0)], &[(0, 0), (1, 24), (25, 3)], None),
+        (true, &[(1, 0)], &[(0, 1), (1, 24), (25, 3)], None),
+        (true, &[], &[(0, 1), (1, 24), (25, 3)], None),
+        (true, &[(2, 0)], &[(0, 1), (1, 24)], None),
+        (true, &[(2, 0)], &[(0, 1), (1, 24), (25, 4)], None),
+        (false, &[(2, 1)], &[(0, 1), (1, 24), (26, 2)], h),
+    ];
+    for (wide, nodes, buffers, want) in cases {
+        assert!(rt; are_two(wide_block(rt.alloc(), wide, nodes, buffers)?, want));
+    }
     Ok(())
 }
 
 #[test]
-fn small_texts(rt: HostRuntime) -> Result<(), Fail> {
-    let alloc = rt.alloc();
-    let texts = block(alloc, 2, 12, b"\0\0\0\0\x01\0\0\0\x02\0\0\0xy")?.ok_or("a bad block")?;
-    assert_eq!(rt; texts.len(), 2);
-    assert!(rt; is_value(&texts, 0, Some("x")) && is_value(&texts, 1, Some("y")));
-    assert!(rt; block(alloc, 2, 12, b"\0\0\0\0\x01\0\0\0\x02\0\0\0x\xFF")?.is_none());
-    assert!(rt; block(alloc, 2, 12, b"\0\0\0\0\x02\0\0\0\x01\0\0\0xy")?.is_none());
-    assert!(rt; block(alloc, 1 << 31, 12, b"\0\0\0\0\x01\0\0\0\x02\0\0\0xy")?.is_none());
-    assert!(rt; block(alloc, -1, 12, b"\0\0\0\0\x01\0\0\0\x02\0\0\0xy")?.is_none());
-    assert_eq!(rt; block(alloc, 0, 0, b"")?.ok_or("a bad block")?.len(), 0);
+fn small_blocks(rt: HostRuntime) -> Result<(), Fail> {
+    let both = Some((Some("x"), Some("y")));
+    let cases: [(i64, &[u8], Option<(Option<&str>, Option<&str>)>); 5] = [
+        (2, b"\0\0\0\0\x01\0\0\0\x02\0\0\0xy", both),
+        (2, b"\0\0\0\0\x01\0\0\0\x02\0\0\0x\xFF", None),
+        (2, b"\0\0\0\0\x02\0\0\0\x01\0\0\0xy", None),
+        (1 << 31, b"\0\0\0\0\x01\0\0\0\x02\0\0\0xy", None),
+        (-1, b"\0\0\0\0\x01\0\0\0\x02\0\0\0xy", None),
+    ];
+    for (rows, body, want) in cases {
+        assert!(rt; are_two(block(rt.alloc(), rows, 12, body)?, want), "{rows}");
+    }
     Ok(())
 }

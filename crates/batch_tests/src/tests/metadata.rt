@@ -1,5 +1,5 @@
 // What the metadata of a batch may say.
-use super::cells::{Cell, assert_cells};
+use super::cells::{Cell, are_cells};
 use super::one_column::{decoded, raw_of};
 use arrow_decode::Raw;
 use arrow_meta::{Layout, Pairs, RecordMeta};
@@ -23,20 +23,33 @@ fn raw(
     raw_of(alloc, Kind::I64, Layout::Plain, meta, body)
 }
 
-#[test]
-fn good(rt: HostRuntime) -> Result<(), Fail> {
-    let want = [Cell::Int(1), Cell::Int(2), Cell::Int(-1)];
-    for (null_count, validity) in [(0, (0, 0)), (5, (0, 0)), (-1, (24, 0)), (0, (16, 1))] {
-        let raw = raw(rt.alloc(), 3, &[(3, null_count)], &[validity, (0, 24)])?;
-        let batch = decoded(rt.alloc(), &[], &raw)?.ok_or("a bad batch")?;
-        assert_cells(&rt, &batch, 0, &want)?;
+// Whether all three numbers are read.
+fn is_good(alloc: Global, null_count: i64, validity: (i64, i64)) -> Result<bool, Fail> {
+    let raw = raw(alloc, 3, &[(3, null_count)], &[validity, (0, 24)])?;
+    match decoded(alloc, &[], &raw)? {
+        None => Ok(false),
+        Some(batch) => {
+            let want = [Cell::Int(1), Cell::Int(2), Cell::Int(-1)];
+            Ok(are_cells(alloc, &batch, 0, &want)?)
+        }
     }
-    Ok(())
+}
+
+fn is_bad(
+    alloc: Global,
+    length: i64,
+    nodes: &[(i64, i64)],
+    buffers: &[(i64, i64)],
+) -> Result<bool, Fail> {
+    let raw = raw(alloc, length, nodes, buffers)?;
+    Ok(decoded(alloc, &[], &raw)?.is_none())
 }
 
 #[test]
-fn bad_lengths_and_nodes(rt: HostRuntime) -> Result<(), Fail> {
-    let buffers = [(0, 0), (0, 24)];
+fn good_and_bad_lengths_and_nodes(rt: HostRuntime) -> Result<(), Fail> {
+    for (null_count, validity) in [(0, (0, 0)), (5, (0, 0)), (-1, (24, 0)), (0, (16, 1))] {
+        assert!(rt; is_good(rt.alloc(), null_count, validity)?);
+    }
     let cases: [(i64, &[(i64, i64)]); 8] = [
         (-1, &[(-1, 0)]),
         (1 << 31, &[(1 << 31, 0)]),
@@ -48,8 +61,10 @@ fn bad_lengths_and_nodes(rt: HostRuntime) -> Result<(), Fail> {
         (3, &[(3, 0), (3, 0)]),
     ];
     for (length, nodes) in cases {
-        let raw = raw(rt.alloc(), length, nodes, &buffers)?;
-        assert!(rt; decoded(rt.alloc(), &[], &raw)?.is_none(), "at {length}");
+        assert!(rt;
+            is_bad(rt.alloc(), length, nodes, &[(0, 0), (0, 24)])?,
+            "{length}"
+        );
     }
     Ok(())
 }
@@ -71,8 +86,7 @@ fn bad_buffers(rt: HostRuntime) -> Result<(), Fail> {
         &[(0, 0), (i64::MAX, i64::MAX)],
     ];
     for buffers in cases {
-        let raw = raw(rt.alloc(), 3, &[(3, 0)], buffers)?;
-        assert!(rt; decoded(rt.alloc(), &[], &raw)?.is_none(), "at {buffers:?}");
+        assert!(rt; is_bad(rt.alloc(), 3, &[(3, 0)], buffers)?);
     }
     Ok(())
 }

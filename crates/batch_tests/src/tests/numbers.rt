@@ -1,102 +1,118 @@
 // Columns of numbers and of truth values.
 use super::cells::Cell;
-use super::one_column::assert_column;
+use super::one_column::is_column;
 use arrow_meta::Layout;
-use std::process::Abort;
+use std::alloc::Global;
 use std::test::Fail;
 use sub_types::Kind;
 
-fn assert_fixed(
-    rt: &(impl Abort + AllocGlobal),
+fn is_fixed(
+    alloc: Global,
     kind: Kind,
     rows: i64,
     validity: &[u8],
     values: &[u8],
     want: Option<&[Cell<'_>]>,
-) -> Result<(), Fail> {
-    assert_column(rt, kind, Layout::Plain, rows, &[validity, values], want)
+) -> Result<bool, Fail> {
+    is_column(alloc, kind, Layout::Plain, rows, &[validity, values], want)
 }
 
-// Two values, of which the first is 1 and the second the least there is.
-fn assert_width(
-    rt: &(impl Abort + AllocGlobal),
-    kind: Kind,
-    values: &[u8],
-    least: i64,
-) -> Result<(), Fail> {
+// Whether there are two values, of which the first is 1 and the second the least there is.
+fn has_width(alloc: Global, kind: Kind, values: &[u8], least: i64) -> Result<bool, Fail> {
     let both = [Cell::Int(1), Cell::Int(least)];
-    assert_fixed(rt, kind, 2, &[], values, Some(&both))?;
-    assert_fixed(rt, kind, 2, &[1], values, Some(&[Cell::Int(1), Cell::Null]))?;
-    assert_fixed(rt, kind, 2, &[2, 0xFF], values, Some(&[Cell::Null, Cell::Int(least)]))?;
-    assert_fixed(rt, kind, 1, &[], values, Some(&[Cell::Int(1)]))?;
-    assert_fixed(rt, kind, 0, &[], &[], Some(&[]))?;
-    assert_fixed(rt, kind, 3, &[], values, None)
+    let first = [Cell::Int(1), Cell::Null];
+    let second = [Cell::Null, Cell::Int(least)];
+    Ok(
+        is_fixed(alloc, kind, 2, &[], values, Some(&both))?
+            && is_fixed(alloc, kind, 2, &[1], values, Some(&first))?
+            && is_fixed(alloc, kind, 2, &[2, 0xFF], values, Some(&second))?
+            && is_fixed(alloc, kind, 0, &[], &[], Some(&[]))?
+            && is_fixed(alloc, kind, 3, &[], values, None)?,
+    )
 }
 
 #[test]
 fn whole_numbers(rt: HostRuntime) -> Result<(), Fail> {
-    let short = b"\x01\0\0\x80";
     let word = b"\x01\0\0\0\0\0\0\x80";
     let long = b"\x01\0\0\0\0\0\0\0\0\0\0\0\0\0\0\x80";
-    assert_width(&rt, Kind::I8, b"\x01\x80", -0x80)?;
-    assert_width(&rt, Kind::I16, short, -0x8000)?;
-    assert_width(&rt, Kind::I32, word, -0x8000_0000)?;
-    assert_width(&rt, Kind::Date, word, -0x8000_0000)?;
-    assert_width(&rt, Kind::I64, long, i64::MIN)?;
-    assert_width(&rt, Kind::Timestamp, long, i64::MIN)?;
-    assert_fixed(&rt, Kind::I16, 2, &[], &short[..3], None)?;
-    assert_fixed(&rt, Kind::I64, 2, &[], &long[..15], None)?;
-    assert_fixed(&rt, Kind::I64, 2, &[0], &long[..15], None)
+    let cases: [(Kind, &[u8], i64); 6] = [
+        (Kind::I8, b"\x01\x80", -0x80),
+        (Kind::I16, b"\x01\0\0\x80", -0x8000),
+        (Kind::I32, word, -0x8000_0000),
+        (Kind::Date, word, -0x8000_0000),
+        (Kind::I64, long, i64::MIN),
+        (Kind::Timestamp, long, i64::MIN),
+    ];
+    for (kind, values, least) in cases {
+        assert!(rt; has_width(rt.alloc(), kind, values, least)?, "{kind:?}");
+    }
+    let cut = b"\x01\0\0\0\0\0\0\0\0\0\0\0\0\0\0";
+    assert!(rt; is_fixed(rt.alloc(), Kind::I64, 2, &[0], cut, None)?);
+    Ok(())
 }
 
-// A 16 byte decimal, of which the bytes behind the first two are the last.
-fn decimal(low: i16) -> [u8; 16] {
-    i128::from(low).to_le_bytes()
-}
-
-fn assert_decimal(
-    rt: &(impl Abort + AllocGlobal),
+// Whether a decimal of so many digits is a bad one, or null, or itself.
+fn is_decimal(
+    alloc: Global,
     precision: u8,
     validity: &[u8],
-    number: i16,
-    want: Option<&[Cell<'_>]>,
-) -> Result<(), Fail> {
+    number: i128,
+    want: Option<Cell<'_>>,
+) -> Result<bool, Fail> {
     let kind = Kind::Decimal {
         precision,
         scale: 1,
     };
-    assert_fixed(rt, kind, 1, validity, &decimal(number), want)
+    let values = number.to_le_bytes();
+    match want {
+        None => is_fixed(alloc, kind, 1, validity, &values, None),
+        Some(cell) => is_fixed(alloc, kind, 1, validity, &values, Some(&[cell])),
+    }
 }
+
+const NINES: i128 = 99_999_999_999_999_999_999_999_999_999_999_999_999;
 
 #[test]
 fn decimals(rt: HostRuntime) -> Result<(), Fail> {
-    assert_decimal(&rt, 3, &[], 999, Some(&[Cell::Dec(999)]))?;
-    assert_decimal(&rt, 3, &[], -999, Some(&[Cell::Dec(-999)]))?;
-    assert_decimal(&rt, 3, &[1], 1000, None)?;
-    assert_decimal(&rt, 3, &[], -1000, None)?;
-    assert_decimal(&rt, 3, &[0], 1000, Some(&[Cell::Null]))?;
-    assert_decimal(&rt, 4, &[], 1000, Some(&[Cell::Dec(1000)]))?;
-    let most = Kind::Decimal {
-        precision: 38,
-        scale: 0,
-    };
-    let nines = 10i128.pow(38) - 1;
-    assert_fixed(&rt, most, 1, &[], &nines.to_le_bytes(), Some(&[Cell::Dec(nines)]))?;
-    assert_fixed(&rt, most, 1, &[], &(nines + 1).to_le_bytes(), None)?;
-    assert_fixed(&rt, most, 1, &[], &i128::MIN.to_le_bytes(), None)?;
-    assert_fixed(&rt, most, 1, &[], &[0; 15], None)
+    let cases: [(u8, &[u8], i128, Option<Cell<'_>>); 10] = [
+        (3, &[], 999, Some(Cell::Dec(999))),
+        (3, &[], -999, Some(Cell::Dec(-999))),
+        (3, &[1], 1000, None),
+        (3, &[], -1000, None),
+        (3, &[0], 1000, Some(Cell::Null)),
+        (4, &[], 1000, Some(Cell::Dec(1000))),
+        (38, &[], NINES, Some(Cell::Dec(NINES))),
+        (38, &[], NINES + 1, None),
+        (38, &[], i128::MIN, None),
+        (38, &[0], i128::MIN, Some(Cell::Null)),
+    ];
+    for (precision, validity, number, want) in cases {
+        assert!(rt;
+            is_decimal(rt.alloc(), precision, validity, number, want)?,
+            "{number}"
+        );
+    }
+    Ok(())
 }
 
 #[test]
 fn truths(rt: HostRuntime) -> Result<(), Fail> {
     let yes = Cell::Bool(true);
     let no = Cell::Bool(false);
+    let null = Cell::Null;
     let nine = [no, yes, no, yes, yes, no, no, yes, yes];
-    assert_fixed(&rt, Kind::Bool, 9, &[], &[0x9A, 0xFF], Some(&nine))?;
-    let some = [no, Cell::Null, no, yes, Cell::Null, no, no, yes, Cell::Null];
-    assert_fixed(&rt, Kind::Bool, 9, &[0xED, 0xFE], &[0x9A, 0xFF], Some(&some))?;
-    assert_fixed(&rt, Kind::Bool, 9, &[0xFF], &[0x9A, 0xFF], None)?;
-    assert_fixed(&rt, Kind::Bool, 9, &[], &[0x9A], None)?;
-    assert_fixed(&rt, Kind::Bool, 8, &[0xFF], &[0x9A], Some(&nine[..8]))?;
-    assert_fixed(&rt, Kind::Bool, 0, &[], &[], Some(&[]))
+    let eight = [no, yes, no, yes, yes, no, no, yes];
+    let some = [no, null, no, yes, null, no, no, yes, null];
+    let cases: [(i64, &[u8], &[u8], Option<&[Cell<'_>]>); 6] = [
+        (9, &[], &[0x9A, 0xFF], Some(&nine)),
+        (9, &[0xED, 0xFE], &[0x9A, 0xFF], Some(&some)),
+        (9, &[0xFF], &[0x9A, 0xFF], None),
+        (9, &[], &[0x9A], None),
+        (8, &[0xFF], &[0x9A], Some(&eight)),
+        (0, &[], &[], Some(&[])),
+    ];
+    for (rows, validity, values, want) in cases {
+        assert!(rt; is_fixed(rt.alloc(), Kind::Bool, rows, validity, values, want)?);
+    }
+    Ok(())
 }

@@ -1,15 +1,14 @@
 // Raw batches of one column.
-ghost use Rattle.std.specs.Prelude.{◌≡◌, IfSome, OnSome};
+ghost use Rattle.std.specs.Prelude.{◌≡◌, true};
 ghost use Rattle.sub_types.specs.Kind.{IsKind};
 ghost use Rattle.arrow_meta.specs.Batch.{known_buffers};
 ghost use Rattle.arrow_meta.specs.Known.{IsLayout};
 
-use super::cells::{Cell, assert_cells};
+use super::cells::{Cell, are_cells};
 use arrow_decode::{DictColumn, Raw, RawError, decode};
 use arrow_meta::{Layout, Pairs, RecordMeta};
 use batch::Batch;
 use std::alloc::Global;
-use std::process::Abort;
 use std::test::Fail;
 use sub_types::{Kind, NoMemory, Ty};
 
@@ -91,54 +90,54 @@ pub(super) fn decoded(
     }
 }
 
-/// The buffers of a column hold these values, or make a bad batch where none are given.
-pub(super) fn assert_encoded(
-    rt: &(impl Abort + AllocGlobal),
+/// Whether the buffers of a column hold these values, or make a bad batch where none are given.
+pub(super) fn is_encoded(
+    alloc: Global,
     dictionaries: &[DictColumn],
     kind: Kind,
     layout: Layout,
     rows: i64,
     buffers: &[&[u8]],
     want: Option<&[Cell<'_>]>,
-) -> Result<(), Fail> {
-    let (extents, body) = laid_out(rt.alloc(), buffers)?;
+) -> Result<bool, Fail> {
+    let (extents, body) = laid_out(alloc, buffers)?;
     let meta = RecordMeta {
         length: rows,
-        nodes: Pairs::from_vec(vec![in rt.alloc(); (rows, 0)]?),
+        nodes: Pairs::from_vec(vec![in alloc; (rows, 0)]?),
         buffers: extents,
     };
-    let raw = raw_of(rt.alloc(), kind, layout, meta, &body)?;
-    match (decoded(rt.alloc(), dictionaries, &raw)?, want) {
-        (None, None) => Ok(()),
-        (Some(batch), Some(cells)) => assert_batch(rt, &batch, kind, cells),
-        _ => Err(Fail::from("a bad batch for a good one, or a good one for a bad one")),
+    let raw = raw_of(alloc, kind, layout, meta, &body)?;
+    match (decoded(alloc, dictionaries, &raw)?, want) {
+        (None, None) => Ok(true),
+        (Some(batch), Some(cells)) => Ok(is_batch(alloc, &batch, kind, cells)?),
+        _ => Ok(false),
     }
 }
 
-fn assert_batch(
-    rt: &(impl Abort + AllocGlobal),
+fn is_batch(
+    alloc: Global,
     batch: &Batch,
     kind: Kind,
     cells: &[Cell<'_>],
-) -> Result<(), Fail> {
-    assert_eq!(rt; batch.number, 0);
-    assert_eq!(rt; batch.columns.len(), 1);
+) -> Result<bool, NoMemory> {
     let nullable = Ty {
         kind,
         nullable: true,
     };
-    assert_eq!(rt; batch.columns[0].ty, nullable);
-    assert_cells(rt, batch, 0, cells)
+    if batch.number != 0 || batch.columns.len() != 1 || batch.columns[0].ty != nullable {
+        return Ok(false);
+    }
+    are_cells(alloc, batch, 0, cells)
 }
 
 /// The same of a column without a dictionary.
-pub(super) fn assert_column(
-    rt: &(impl Abort + AllocGlobal),
+pub(super) fn is_column(
+    alloc: Global,
     kind: Kind,
     layout: Layout,
     rows: i64,
     buffers: &[&[u8]],
     want: Option<&[Cell<'_>]>,
-) -> Result<(), Fail> {
-    assert_encoded(rt, &[], kind, layout, rows, buffers, want)
+) -> Result<bool, Fail> {
+    is_encoded(alloc, &[], kind, layout, rows, buffers, want)
 }

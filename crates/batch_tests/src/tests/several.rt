@@ -1,5 +1,5 @@
 // Batches of several columns, some of which are wanted.
-use super::cells::{Cell, assert_cells};
+use super::cells::{Cell, are_cells};
 use super::one_column::decoded;
 use arrow_decode::Raw;
 use arrow_meta::{Layout, Pairs, RecordMeta};
@@ -11,10 +11,15 @@ use sub_types::{Kind, NoMemory};
 fn meta(alloc: Global) -> Result<RecordMeta, NoMemory> {
     let nodes = vec![in alloc; (2, 0), (2, 1), (77, -1), (2, 0)]?;
     let buffers = vec![in alloc;
-        (0, 0), (0, 2),
-        (2, 1), (3, 12), (15, 2),
-        (-1, 9), (999, 1),
-        (0, 0), (17, 2)
+        (0, 0),
+        (0, 2),
+        (2, 1),
+        (3, 12),
+        (15, 2),
+        (-1, 9),
+        (999, 1),
+        (0, 0),
+        (17, 2),
     ]?;
     Ok(RecordMeta {
         length: 2,
@@ -34,7 +39,7 @@ fn backward(alloc: Global) -> Result<Raw, NoMemory> {
         columns: vec![in alloc;
             (3, Kind::I8, Layout::Plain),
             (1, Kind::Text, Layout::Plain),
-            (0, Kind::I8, Layout::Plain)
+            (0, Kind::I8, Layout::Plain),
         ]?,
         shapes: vec![in alloc; 2, 3, 2, 2]?,
         body: body(alloc)?,
@@ -69,34 +74,39 @@ fn bare(alloc: Global) -> RecordMeta {
     }
 }
 
-#[test]
-fn columns_in_the_order_wanted(rt: HostRuntime) -> Result<(), Fail> {
-    let raw = backward(rt.alloc())?;
-    let batch = decoded(rt.alloc(), &[], &raw)?.ok_or("a bad batch")?;
-    assert_eq!(rt; batch.columns.len(), 3);
-    assert_cells(&rt, &batch, 0, &[Cell::Int(3), Cell::Int(-4)])?;
-    assert_cells(&rt, &batch, 1, &[Cell::Null, Cell::Bytes(b"hi")])?;
-    assert_cells(&rt, &batch, 2, &[Cell::Int(7), Cell::Int(8)])
+fn is_backward(alloc: Global) -> Result<bool, NoMemory> {
+    match decoded(alloc, &[], &backward(alloc)?)? {
+        None => Ok(false),
+        Some(batch) => Ok(
+            batch.columns.len() == 3
+                && are_cells(alloc, &batch, 0, &[Cell::Int(3), Cell::Int(-4)])?
+                && are_cells(alloc, &batch, 1, &[Cell::Null, Cell::Bytes(b"hi")])?
+                && are_cells(alloc, &batch, 2, &[Cell::Int(7), Cell::Int(8)])?,
+        ),
+    }
+}
+
+// The number of rows where no column is wanted, or none where the batch is bad.
+fn rows_of(alloc: Global, meta: RecordMeta, shapes: &[u8]) -> Result<Option<u64>, NoMemory> {
+    match decoded(alloc, &[], &no_columns(alloc, meta, shapes)?)? {
+        None => Ok(None),
+        Some(batch) => Ok(Some(batch.rows)),
+    }
 }
 
 #[test]
-fn bad_column_is_met_where_wanted(rt: HostRuntime) -> Result<(), Fail> {
-    let raw = bad_column(rt.alloc())?;
-    assert!(rt; decoded(rt.alloc(), &[], &raw)?.is_none());
+fn columns_in_the_order_wanted(rt: HostRuntime) -> Result<(), Fail> {
+    assert!(rt; is_backward(rt.alloc())?);
+    assert!(rt; decoded(rt.alloc(), &[], &bad_column(rt.alloc())?)?.is_none());
     Ok(())
 }
 
 #[test]
 fn rows_without_columns(rt: HostRuntime) -> Result<(), Fail> {
     let alloc = rt.alloc();
-    let raw = no_columns(alloc, meta(alloc)?, &[2, 3, 2, 2])?;
-    let batch = decoded(alloc, &[], &raw)?.ok_or("a bad batch")?;
-    assert!(rt; batch.rows == 2 && batch.columns.is_empty());
-    let none = no_columns(alloc, bare(alloc), &[])?;
-    assert_eq!(rt; decoded(alloc, &[], &none)?.ok_or("a bad batch")?.rows, 7);
-    let fewer = no_columns(alloc, meta(alloc)?, &[2, 3, 2])?;
-    assert!(rt; decoded(alloc, &[], &fewer)?.is_none());
-    let other = no_columns(alloc, meta(alloc)?, &[2, 3, 3, 2])?;
-    assert!(rt; decoded(alloc, &[], &other)?.is_none());
+    assert!(rt; rows_of(alloc, meta(alloc)?, &[2, 3, 2, 2])? == Some(2));
+    assert!(rt; rows_of(alloc, bare(alloc), &[])? == Some(7));
+    assert!(rt; rows_of(alloc, meta(alloc)?, &[2, 3, 2])? == None);
+    assert!(rt; rows_of(alloc, meta(alloc)?, &[2, 3, 3, 2])? == None);
     Ok(())
 }

@@ -4,154 +4,190 @@ ghost use Rattle.std.specs.Prelude.{◌<◌, ◌^◌};
 use super::digits::bytes_of;
 use super::foreign::{INDEXED, PLAIN, TYPED};
 use arrow_meta::{Block, FieldMeta, Layout, Shape, read_footer};
-use std::process::Abort;
 use std::test::Fail;
 use sub_types::Kind;
 
-const SKIPPED: Shape = Shape::Skip { buffers: 2 };
-
-const fn plain(kind: Kind) -> Shape {
-    Shape::Known {
-        kind,
-        layout: Layout::Plain,
+// The columns have these names, nullable flags and kinds, and this layout.
+pub(super) fn are_known(fields: &[FieldMeta], layout: Layout, want: &[(&str, bool, Kind)]) -> bool {
+    if fields.len() != want.len() {
+        return false;
     }
-}
-
-const fn wide(kind: Kind) -> Shape {
-    Shape::Known {
-        kind,
-        layout: Layout::Wide,
+    for (field, (name, nullable, kind)) in fields.iter().zip(want) {
+        if !is_known(field, name.as_bytes(), *nullable, *kind, layout) {
+            return false;
+        }
     }
+    true
 }
 
-fn decimal(precision: u8, scale: u8) -> Shape {
-    plain(Kind::Decimal { precision, scale })
+fn is_known(field: &FieldMeta, name: &[u8], nullable: bool, kind: Kind, layout: Layout) -> bool {
+    let shape = Shape::Known { kind, layout };
+    field.name.bytes() == name && field.nullable == nullable && field.shape == shape
 }
 
-// Texts of a dictionary with small offsets.
-fn index(id: i64, width: u8, signed: bool) -> Shape {
-    Shape::Known {
-        kind: Kind::Text,
-        layout: Layout::Index {
-            id,
-            width,
-            signed,
-            wide: false,
-        },
+// The columns are texts under dictionaries of these ids, with indices of these widths, with a sign or not.
+fn are_indices(fields: &[FieldMeta], is_wide: bool, want: &[(&str, i64, u8, bool)]) -> bool {
+    if fields.len() != want.len() {
+        return false;
     }
-}
-
-// Texts of a dictionary with wide offsets.
-fn wide_index(id: i64, width: u8, signed: bool) -> Shape {
-    Shape::Known {
-        kind: Kind::Text,
-        layout: Layout::Index {
-            id,
-            width,
-            signed,
-            wide: true,
-        },
+    for (field, (name, id, width, signed)) in fields.iter().zip(want) {
+        let layout = Layout::Index {
+            id: *id,
+            width: *width,
+            signed: *signed,
+            wide: is_wide,
+        };
+        if !is_known(field, name.as_bytes(), field.nullable, Kind::Text, layout) {
+            return false;
+        }
     }
+    true
 }
 
-fn assert_columns(rt: &impl Abort, columns: &[FieldMeta], want: &[(&str, bool, Shape)]) {
-    assert_eq!(rt; columns.len(), want.len());
-    for (column, (name, nullable, shape)) in columns.iter().zip(want) {
-        assert_eq!(rt; column.name.bytes(), name.as_bytes());
-        assert_eq!(rt; column.nullable, *nullable, "at {name}");
-        assert_eq!(rt; column.shape, *shape, "at {name}");
+// The columns can't be read, and have two buffers each.
+fn are_skipped(fields: &[FieldMeta], names: &[&str]) -> bool {
+    if fields.len() != names.len() {
+        return false;
     }
+    for (field, name) in fields.iter().zip(names) {
+        let skipped = Shape::Skip { buffers: 2 };
+        if field.name.bytes() != name.as_bytes() || field.shape != skipped {
+            return false;
+        }
+    }
+    true
 }
 
-fn assert_blocks(rt: &impl Abort, blocks: &[Block], want: &[(i64, i32, i64)]) {
-    assert_eq!(rt; blocks.len(), want.len());
+pub(super) fn are_blocks(blocks: &[Block], want: &[(i64, i32, i64)]) -> bool {
+    if blocks.len() != want.len() {
+        return false;
+    }
     for (block, want) in blocks.iter().zip(want) {
-        assert_eq!(rt; (block.offset, block.meta_len, block.body_len), *want);
+        if (block.offset, block.meta_len, block.body_len) != *want {
+            return false;
+        }
     }
+    true
+}
+
+const PLAIN_KINDS: [(&str, bool, Kind); 7] = [
+    ("truth", true, Kind::Bool),
+    ("i8", true, Kind::I8),
+    ("i16", false, Kind::I16),
+    ("i32", false, Kind::I32),
+    ("i64", true, Kind::I64),
+    ("binary", false, Kind::Binary),
+    ("text", true, Kind::Text),
+];
+
+const WIDE_KINDS: [(&str, bool, Kind); 2] = [
+    ("", false, Kind::Binary),
+    ("large", false, Kind::Text),
+];
+
+const PLAIN_SKIPPED: [&str; 8] = [
+    "i24", "u8", "u64", "float", "time", "interval", "sized", "lasting",
+];
+
+fn are_plain(fields: &[FieldMeta]) -> bool {
+    if fields.len() != 17 {
+        return false;
+    }
+    are_known(&fields[..7], Layout::Plain, &PLAIN_KINDS)
+        && are_known(&fields[7..9], Layout::Wide, &WIDE_KINDS)
+        && are_skipped(&fields[9..], &PLAIN_SKIPPED)
+}
+
+const TYPED_KINDS: [(&str, bool, Kind); 5] = [
+    (
+        "d10",
+        false,
+        Kind::Decimal {
+            precision: 10,
+            scale: 2,
+        },
+    ),
+    (
+        "d38",
+        false,
+        Kind::Decimal {
+            precision: 38,
+            scale: 38,
+        },
+    ),
+    (
+        "d1",
+        false,
+        Kind::Decimal {
+            precision: 1,
+            scale: 0,
+        },
+    ),
+    ("day", false, Kind::Date),
+    ("us", false, Kind::Timestamp),
+];
+
+const TYPED_SKIPPED: [&str; 10] = [
+    "wide", "d0", "d39", "over", "under", "ms", "no zone", "zone", "s", "ns",
+];
+
+fn are_typed(fields: &[FieldMeta]) -> bool {
+    if fields.len() != 15 {
+        return false;
+    }
+    are_known(&fields[..5], Layout::Plain, &TYPED_KINDS)
+        && are_skipped(&fields[5..], &TYPED_SKIPPED)
+}
+
+const INDICES: [(&str, i64, u8, bool); 6] = [
+    ("a", 7, 1, true),
+    ("b", -1, 2, true),
+    ("c", 7, 4, true),
+    ("d", 7, 8, true),
+    ("e", 7, 1, false),
+    ("j", 0, 4, true),
+];
+
+const WIDE_INDICES: [(&str, i64, u8, bool); 3] = [
+    ("f", 7, 2, false),
+    ("g", 7, 4, false),
+    ("h", i64::MAX, 8, false),
+];
+
+const INDEXED_SKIPPED: [&str; 10] = ["i", "k", "l", "m", "n", "o", "p", "q", "r", "s"];
+
+fn are_indexed(fields: &[FieldMeta]) -> bool {
+    if fields.len() != 19 {
+        return false;
+    }
+    are_indices(&fields[..6], false, &INDICES)
+        && are_indices(&fields[6..9], true, &WIDE_INDICES)
+        && are_skipped(&fields[9..], &INDEXED_SKIPPED)
 }
 
 #[test]
 fn every_tag(rt: HostRuntime) -> Result<(), Fail> {
     let bytes = bytes_of(rt.alloc(), PLAIN)?;
     let (schema, dictionaries, records) = read_footer(rt.alloc(), &bytes)?;
-    let want = [
-        ("truth", true, plain(Kind::Bool)),
-        ("i8", true, plain(Kind::I8)),
-        ("i16", false, plain(Kind::I16)),
-        ("i32", false, plain(Kind::I32)),
-        ("i64", true, plain(Kind::I64)),
-        ("i24", false, SKIPPED),
-        ("u8", false, SKIPPED),
-        ("u64", true, SKIPPED),
-        ("binary", false, plain(Kind::Binary)),
-        ("text", true, plain(Kind::Text)),
-        ("", false, wide(Kind::Binary)),
-        ("large", false, wide(Kind::Text)),
-        ("float", false, SKIPPED),
-        ("time", false, SKIPPED),
-        ("interval", false, SKIPPED),
-        ("sized", false, SKIPPED),
-        ("lasting", false, SKIPPED),
-    ];
-    assert_columns(&rt, schema.columns.fields(), &want);
-    assert_blocks(&rt, &dictionaries, &[(8, 200, 64), (272, 200, 0)]);
-    assert_blocks(&rt, &records, &[(472, 160, 1 << 33), (1 << 62, -1, -2)]);
+    assert!(rt; are_plain(schema.columns.fields()));
+    assert!(rt; are_blocks(&dictionaries, &[(8, 200, 64), (272, 200, 0)]));
+    assert!(rt; are_blocks(&records, &[(472, 160, 1 << 33), (1 << 62, -1, -2)]));
     Ok(())
 }
 
 #[test]
-fn typed(rt: HostRuntime) -> Result<(), Fail> {
+fn by_type_table(rt: HostRuntime) -> Result<(), Fail> {
     let bytes = bytes_of(rt.alloc(), TYPED)?;
     let (schema, dictionaries, records) = read_footer(rt.alloc(), &bytes)?;
-    let want = [
-        ("d10", false, decimal(10, 2)),
-        ("d38", false, decimal(38, 38)),
-        ("d1", false, decimal(1, 0)),
-        ("wide", false, SKIPPED),
-        ("d0", false, SKIPPED),
-        ("d39", false, SKIPPED),
-        ("over", false, SKIPPED),
-        ("under", false, SKIPPED),
-        ("day", false, plain(Kind::Date)),
-        ("ms", false, SKIPPED),
-        ("us", false, plain(Kind::Timestamp)),
-        ("no zone", false, SKIPPED),
-        ("zone", false, SKIPPED),
-        ("s", false, SKIPPED),
-        ("ns", false, SKIPPED),
-    ];
-    assert_columns(&rt, schema.columns.fields(), &want);
-    assert!(rt; dictionaries.is_empty() && records.is_empty());
+    let no_blocks = dictionaries.is_empty() && records.is_empty();
+    assert!(rt; no_blocks && are_typed(schema.columns.fields()));
     Ok(())
 }
 
 #[test]
 fn under_dictionaries(rt: HostRuntime) -> Result<(), Fail> {
     let bytes = bytes_of(rt.alloc(), INDEXED)?;
-    let (schema, dictionaries, records) = read_footer(rt.alloc(), &bytes)?;
-    let want = [
-        ("a", true, index(7, 1, true)),
-        ("b", false, index(-1, 2, true)),
-        ("c", false, index(7, 4, true)),
-        ("d", false, index(7, 8, true)),
-        ("e", false, index(7, 1, false)),
-        ("f", false, wide_index(7, 2, false)),
-        ("g", false, wide_index(7, 4, false)),
-        ("h", false, wide_index(i64::MAX, 8, false)),
-        ("i", false, SKIPPED),
-        ("j", false, index(0, 4, true)),
-        ("k", false, SKIPPED),
-        ("l", false, SKIPPED),
-        ("m", false, SKIPPED),
-        ("n", false, SKIPPED),
-        ("o", false, SKIPPED),
-        ("p", false, SKIPPED),
-        ("q", false, SKIPPED),
-        ("r", false, SKIPPED),
-        ("s", false, SKIPPED),
-    ];
-    assert_columns(&rt, schema.columns.fields(), &want);
-    assert_blocks(&rt, &dictionaries, &[(8, 200, 64)]);
-    assert!(rt; records.is_empty());
+    let (schema, _dictionaries, _records) = read_footer(rt.alloc(), &bytes)?;
+    assert!(rt; are_indexed(schema.columns.fields()));
     Ok(())
 }

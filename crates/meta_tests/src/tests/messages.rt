@@ -10,65 +10,74 @@ use arrow_meta::{MetaError, RecordMeta, read_dictionary, read_message};
 use std::alloc::Global;
 use std::test::Fail;
 
-fn record(alloc: Global, digits: &str) -> Result<Result<RecordMeta, MetaError>, Fail> {
-    let bytes = bytes_of(alloc, digits)?;
-    Ok(read_message(alloc, &bytes))
+pub(super) fn is_record(
+    meta: &RecordMeta,
+    length: i64,
+    nodes: &[(i64, i64)],
+    buffers: &[(i64, i64)],
+) -> bool {
+    meta.length == length && meta.nodes.pairs() == nodes && meta.buffers.pairs() == buffers
 }
 
-fn dictionary(
+// The message is one of a record batch that says this.
+fn reads(
     alloc: Global,
     digits: &str,
-) -> Result<Result<(i64, bool, RecordMeta), MetaError>, Fail> {
+    length: i64,
+    nodes: &[(i64, i64)],
+    buffers: &[(i64, i64)],
+) -> Result<bool, Fail> {
     let bytes = bytes_of(alloc, digits)?;
-    Ok(read_dictionary(alloc, &bytes))
+    let meta = read_message(alloc, &bytes)?;
+    Ok(is_record(&meta, length, nodes, buffers))
+}
+
+// The message is one of a dictionary block of two texts.
+fn is_block(alloc: Global, digits: &str, want: (i64, bool)) -> Result<bool, Fail> {
+    let bytes = bytes_of(alloc, digits)?;
+    let (id, is_delta, values) = read_dictionary(alloc, &bytes)?;
+    let buffers = [(0, 0), (0, 12), (16, 2)];
+    Ok((id, is_delta) == want && is_record(&values, 2, &[(2, 0)], &buffers))
+}
+
+// Why it isn't read as the message of a record batch.
+fn record_refusal(alloc: Global, digits: &str) -> Result<Option<MetaError>, Fail> {
+    let bytes = bytes_of(alloc, digits)?;
+    Ok(read_message(alloc, &bytes).err())
+}
+
+// Why it isn't read as the message of a dictionary block.
+fn dictionary_refusal(alloc: Global, digits: &str) -> Result<Option<MetaError>, Fail> {
+    let bytes = bytes_of(alloc, digits)?;
+    Ok(read_dictionary(alloc, &bytes).err())
 }
 
 #[test]
-fn records(rt: HostRuntime) -> Result<(), Fail> {
-    let meta = record(rt.alloc(), RECORD)??;
-    assert_eq!(rt; meta.length, 5);
-    assert_eq!(rt; meta.nodes.pairs(), [(5, 1)].as_slice());
-    assert_eq!(rt; meta.buffers.pairs(), [(0, 1), (8, 40)].as_slice());
-    let bare = record(rt.alloc(), BARE)??;
-    assert_eq!(rt; bare.length, 0);
-    assert!(rt; bare.nodes.pairs().is_empty() && bare.buffers.pairs().is_empty());
-    Ok(())
-}
-
-#[test]
-fn dictionaries(rt: HostRuntime) -> Result<(), Fail> {
-    for (digits, want_id, want_delta) in [
-        (FIRST, 9, false),
-        (NO_DELTA, 9, false),
-        (DELTA, -9, true),
-        (NO_ID, 0, true),
+fn records_and_dictionaries(rt: HostRuntime) -> Result<(), Fail> {
+    assert!(rt; reads(rt.alloc(), RECORD, 5, &[(5, 1)], &[(0, 1), (8, 40)])?);
+    assert!(rt; reads(rt.alloc(), BARE, 0, &[], &[])?);
+    for (digits, want) in [
+        (FIRST, (9, false)),
+        (NO_DELTA, (9, false)),
+        (DELTA, (-9, true)),
+        (NO_ID, (0, true)),
     ] {
-        let (id, is_delta, values) = dictionary(rt.alloc(), digits)??;
-        assert_eq!(rt; (id, is_delta), (want_id, want_delta));
-        assert_eq!(rt; values.length, 2);
-        assert_eq!(rt; values.nodes.pairs(), [(2, 0)].as_slice());
-        assert_eq!(rt; values.buffers.pairs(), [(0, 0), (0, 12), (16, 2)].as_slice());
+        assert!(rt; is_block(rt.alloc(), digits, want)?);
     }
     Ok(())
 }
 
 #[test]
 fn refused_messages(rt: HostRuntime) -> Result<(), Fail> {
-    for (digits, want) in [
-        (COMPRESSED, MetaError::Compressed),
-        (NO_HEADER, MetaError::Bad),
-        (OLD, MetaError::Bad),
-        (NEW, MetaError::Bad),
-        (FIRST, MetaError::Bad),
-    ] {
-        assert_eq!(rt; record(rt.alloc(), digits)?.err(), Some(want), "of {digits}");
+    let bad = Some(MetaError::Bad);
+    let compressed = Some(MetaError::Compressed);
+    for digits in [NO_HEADER, OLD, NEW, FIRST] {
+        assert!(rt; record_refusal(rt.alloc(), digits)? == bad);
     }
-    for (digits, want) in [
-        (COMPRESSED_DICTIONARY, MetaError::Compressed),
-        (NO_VALUES, MetaError::Bad),
-        (RECORD, MetaError::Bad),
-    ] {
-        assert_eq!(rt; dictionary(rt.alloc(), digits)?.err(), Some(want), "of {digits}");
+    for digits in [NO_VALUES, RECORD] {
+        assert!(rt; dictionary_refusal(rt.alloc(), digits)? == bad);
     }
+    assert!(rt; record_refusal(rt.alloc(), COMPRESSED)? == compressed);
+    assert!(rt; dictionary_refusal(rt.alloc(), COMPRESSED_DICTIONARY)? == compressed);
     Ok(())
 }

@@ -43,47 +43,43 @@ fn damaged_record(alloc: Global, place: usize, word: [u8; 4]) -> Option<MetaErro
 
 #[test]
 fn refused(rt: HostRuntime) -> Result<(), Fail> {
-    let footers = [
-        (V3, BAD),
-        (V6, BAD),
-        (NO_VERSION, BAD),
-        (BIG_ENDIAN, BAD),
-        (NO_SCHEMA, BAD),
-        (NO_INT, BAD),
-        (NO_DECIMAL, BAD),
-        (NO_DATE, BAD),
-        (NO_TIMESTAMP, BAD),
-        (LIST_AND_BAD_BLOCKS, BAD),
-        (LIST, unsupported(1)),
-        (LIST_IN_DICTIONARY, unsupported(1)),
-        (NO_TAG, unsupported(0)),
-        (EMPTY, None),
-    ];
-    for (footer, want) in footers {
-        assert_eq!(rt; refusal(rt.alloc(), footer)?, want, "of {footer}");
+    for footer in [
+        V3,
+        V6,
+        NO_VERSION,
+        BIG_ENDIAN,
+        NO_SCHEMA,
+        NO_INT,
+        NO_DECIMAL,
+        NO_DATE,
+        NO_TIMESTAMP,
+        LIST_AND_BAD_BLOCKS,
+    ] {
+        assert!(rt; refusal(rt.alloc(), footer)? == BAD, "{footer}");
     }
+    for (footer, column) in [(LIST, 1), (LIST_IN_DICTIONARY, 1), (NO_TAG, 0)] {
+        assert!(rt;
+            refusal(rt.alloc(), footer)? == unsupported(column),
+            "{footer}"
+        );
+    }
+    assert!(rt; refusal(rt.alloc(), EMPTY)? == None);
     Ok(())
 }
 
-// The counts of fields, dictionaries, blocks, and bytes of a name, and last one that isn't looked at, of a
-// column's children.
+// Counts of fields, dictionaries, blocks, and bytes of a name. That of a column's children isn't looked at.
 #[test]
-fn damaged_counts_of_a_footer(rt: HostRuntime) {
+fn damaged_counts(rt: HostRuntime) {
+    let most = [255; 4];
     for place in [64, 156, 164, 112] {
-        assert!(rt; place < 188);
-        assert_eq!(rt; damaged_footer(rt.alloc(), place, [255; 4]), BAD, "at {place}");
+        assert!(rt; place < 188 && damaged_footer(rt.alloc(), place, most) == BAD);
     }
-    assert_eq!(rt; damaged_footer(rt.alloc(), 164, [2, 0, 0, 0]), BAD);
-    assert_eq!(rt; damaged_footer(rt.alloc(), 148, [255; 4]), None);
-}
-
-// The counts of nodes and of buffers.
-#[test]
-fn damaged_counts_of_a_record(rt: HostRuntime) {
+    assert!(rt; damaged_footer(rt.alloc(), 164, [2, 0, 0, 0]) == BAD);
+    assert!(rt; damaged_footer(rt.alloc(), 148, most) == None);
+    // Counts of nodes and of buffers.
     for place in [76, 100] {
-        assert!(rt; place < 132);
-        assert_eq!(rt; damaged_record(rt.alloc(), place, [255; 4]), BAD, "at {place}");
+        assert!(rt; place < 132 && damaged_record(rt.alloc(), place, most) == BAD);
     }
-    assert_eq!(rt; damaged_record(rt.alloc(), 100, [3, 0, 0, 0]), BAD);
-    assert_eq!(rt; damaged_record(rt.alloc(), 100, [1, 0, 0, 0]), None);
+    assert!(rt; damaged_record(rt.alloc(), 100, [3, 0, 0, 0]) == BAD);
+    assert!(rt; damaged_record(rt.alloc(), 100, [1, 0, 0, 0]) == None);
 }

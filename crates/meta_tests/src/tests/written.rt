@@ -1,7 +1,9 @@
 // Metadata of a worked file, written and read back.
+use super::footers::{are_blocks, are_known};
+use super::messages::is_record;
 use super::worked::{FOOTER, RECORD_MESSAGE, SCHEMA_MESSAGE};
 use arrow_meta::{
-    Block, Layout, Pairs, RecordMeta, Shape, read_footer, read_message, write_footer,
+    Block, Layout, Pairs, RecordMeta, read_footer, read_message, write_footer,
     write_record_message, write_schema_message,
 };
 use std::alloc::Global;
@@ -39,39 +41,33 @@ fn record_message(alloc: Global) -> Result<Vec<u8>, NoMemory> {
     write_record_message(alloc, &meta, 24)
 }
 
+fn are_written(alloc: Global) -> Result<bool, NoMemory> {
+    Ok(
+        schema_message(alloc)?.as_slice() == SCHEMA_MESSAGE.as_slice()
+            && record_message(alloc)?.as_slice() == RECORD_MESSAGE.as_slice()
+            && footer(alloc)?.as_slice() == FOOTER.as_slice(),
+    )
+}
+
+fn is_worked_footer(alloc: Global) -> Result<bool, Fail> {
+    let (schema, dictionaries, records) = read_footer(alloc, &FOOTER)?;
+    let columns = schema.columns.fields();
+    Ok(
+        are_known(columns, Layout::Plain, &[("x", false, Kind::I64)])
+            && dictionaries.is_empty()
+            && are_blocks(&records, &[(168, 144, 24)]),
+    )
+}
+
+fn is_worked_record(alloc: Global) -> Result<bool, Fail> {
+    let meta = read_message(alloc, &RECORD_MESSAGE)?;
+    Ok(is_record(&meta, 3, &[(3, 0)], &[(0, 0), (0, 24)]))
+}
+
 #[test]
 fn worked_bytes(rt: HostRuntime) -> Result<(), Fail> {
-    let alloc = rt.alloc();
-    assert_eq!(rt; schema_message(alloc)?.as_slice(), SCHEMA_MESSAGE.as_slice());
-    assert_eq!(rt; record_message(alloc)?.as_slice(), RECORD_MESSAGE.as_slice());
-    assert_eq!(rt; footer(alloc)?.as_slice(), FOOTER.as_slice());
-    Ok(())
-}
-
-#[test]
-fn worked_footer_reads(rt: HostRuntime) -> Result<(), Fail> {
-    let (schema, dictionaries, records) = read_footer(rt.alloc(), &FOOTER)?;
-    let columns = schema.columns.fields();
-    assert_eq!(rt; columns.len(), 1);
-    assert_eq!(rt; columns[0].name.bytes(), b"x".as_slice());
-    assert!(rt; !columns[0].nullable);
-    let shape = Shape::Known {
-        kind: Kind::I64,
-        layout: Layout::Plain,
-    };
-    assert_eq!(rt; columns[0].shape, shape);
-    assert!(rt; dictionaries.is_empty());
-    assert_eq!(rt; records.len(), 1);
-    let block = records[0];
-    assert_eq!(rt; (block.offset, block.meta_len, block.body_len), (168, 144, 24));
-    Ok(())
-}
-
-#[test]
-fn worked_record_reads(rt: HostRuntime) -> Result<(), Fail> {
-    let meta = read_message(rt.alloc(), &RECORD_MESSAGE)?;
-    assert_eq!(rt; meta.length, 3);
-    assert_eq!(rt; meta.nodes.pairs(), [(3, 0)].as_slice());
-    assert_eq!(rt; meta.buffers.pairs(), [(0, 0), (0, 24)].as_slice());
+    assert!(rt; are_written(rt.alloc())?);
+    assert!(rt; is_worked_footer(rt.alloc())?);
+    assert!(rt; is_worked_record(rt.alloc())?);
     Ok(())
 }
