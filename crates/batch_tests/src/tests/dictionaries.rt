@@ -62,20 +62,24 @@ pub(super) fn texts_of(alloc: Global, texts: &[Option<&str>]) -> Result<TextCol,
     Ok(builder.finish())
 }
 
-/// The texts of a block with such metadata and such a body, or none where the block is bad.
+/// The texts of a block of one buffer of offsets with 4 bytes and one of bytes, behind it, or none where
+/// the block is bad.
 pub(super) fn block(
     alloc: Global,
-    wide: bool,
     rows: i64,
-    buffers: &[(i64, i64)],
+    offsets: i64,
     body: &[u8],
 ) -> Result<Option<TextCol>, NoMemory> {
+    let end = body.len() as i64;
+    if offsets < 0 || offsets > end {
+        return Ok(None);
+    }
     let meta = RecordMeta {
         length: rows,
         nodes: Pairs::from_vec(vec![in alloc; (rows, 0)]?),
-        buffers: Pairs::from_vec(buffers.to_vec(alloc)?),
+        buffers: Pairs::from_vec(vec![in alloc; (0, 0), (0, offsets), (offsets, end - offsets)]?),
     };
-    decode_texts(alloc, wide, &meta, body)
+    decode_texts(alloc, false, &meta, body)
 }
 
 /// The texts of blocks, one after the other.
@@ -101,6 +105,22 @@ fn is_value(column: &TextCol, i: usize, want: Option<&str>) -> bool {
     }
 }
 
+// A wide block of two values, a null and `hi`, whose bytes begin behind some that say nothing.
+fn wide_block(
+    alloc: Global,
+    wide: bool,
+    nodes: &[(i64, i64)],
+    buffers: &[(i64, i64)],
+) -> Result<Option<TextCol>, NoMemory> {
+    let meta = RecordMeta {
+        length: 2,
+        nodes: Pairs::from_vec(nodes.to_vec(alloc)?),
+        buffers: Pairs::from_vec(buffers.to_vec(alloc)?),
+    };
+    let body = b"\x02\0\0\0\0\0\0\0\0\x01\0\0\0\0\0\0\0\x03\0\0\0\0\0\0\0\xFFhi";
+    decode_texts(alloc, wide, &meta, body)
+}
+
 // Whether the block has these two texts, or is bad where none are given.
 fn are_two(block: Option<TextCol>, want: Option<(Option<&str>, Option<&str>)>) -> bool {
     match (block, want) {
@@ -112,46 +132,42 @@ fn are_two(block: Option<TextCol>, want: Option<(Option<&str>, Option<&str>)>) -
     }
 }
 
-// Offsets 0, 1 and 2 of 4 bytes, and two bytes.
-const SMALL: &[u8] = b"\0\0\0\0\x01\0\0\0\x02\0\0\0xy";
-
-// The same, where the second isn't a text.
-const NOT_TEXT: &[u8] = b"\0\0\0\0\x01\0\0\0\x02\0\0\0x\xFF";
-
-// The offsets fall.
-const FALLING: &[u8] = b"\0\0\0\0\x02\0\0\0\x01\0\0\0xy";
-
-// The second of two is valid; offsets 0, 1 and 3 of 8 bytes; three bytes, of which the first is no text.
-const WIDE: &[u8] = b"\x02\0\0\0\0\0\0\0\0\x01\0\0\0\0\0\0\0\x03\0\0\0\0\0\0\0\xFFhi";
-
-type Two<'a> = Option<(Option<&'a str>, Option<&'a str>)>;
-
 #[test]
-fn blocks(rt: HostRuntime) -> Result<(), Fail> {
-    let both = Some((Some("x"), Some("y")));
+fn wide_blocks(rt: HostRuntime) -> Result<(), Fail> {
     let hi = Some((None, Some("hi")));
     let h = Some((None, Some("h")));
-    let small: &[(i64, i64)] = &[(0, 0), (0, 12), (12, 2)];
-    let wide: &[(i64, i64)] = &[(0, 1), (1, 24), (25, 3)];
-    let cases: [(bool, i64, &[(i64, i64)], &[u8], Two<'_>); 12] = [
-        (false, 2, small, SMALL, both),
-        (false, 2, small, NOT_TEXT, None),
-        (false, 2, small, FALLING, None),
-        (false, 1 << 31, small, SMALL, None),
-        (false, -1, small, SMALL, None),
-        (false, 3, small, SMALL, None),
-        (true, 2, wide, WIDE, hi),
-        (true, 2, &[(0, 0), (1, 24), (25, 3)], WIDE, None),
-        (true, 2, &[(0, 1), (1, 24)], WIDE, None),
-        (true, 2, &[(0, 1), (1, 24), (25, 4)], WIDE, None),
-        (true, 2, small, SMALL, None),
-        (false, 2, &[(0, 1), (1, 24), (26, 2)], WIDE, h),
+    let cases: [(
+        bool,
+        &[(i64, i64)],
+        &[(i64, i64)],
+        Option<(Option<&str>, Option<&str>)>,
+    ); 7] = [
+        (true, &[(2, 1)], &[(0, 1), (1, 24), (25, 3)], hi),
+        (true, &[(2, 0)], &[(0, 0), (1, 24), (25, 3)], None),
+        (true, &[(1, 0)], &[(0, 1), (1, 24), (25, 3)], None),
+        (true, &[], &[(0, 1), (1, 24), (25, 3)], None),
+        (true, &[(2, 0)], &[(0, 1), (1, 24)], None),
+        (true, &[(2, 0)], &[(0, 1), (1, 24), (25, 4)], None),
+        (false, &[(2, 1)], &[(0, 1), (1, 24), (26, 2)], h),
     ];
-    for (is_wide, rows, buffers, body, want) in cases {
-        assert!(rt;
-            are_two(block(rt.alloc(), is_wide, rows, buffers, body)?, want),
-            "{buffers:?}"
-        );
+    for (wide, nodes, buffers, want) in cases {
+        assert!(rt; are_two(wide_block(rt.alloc(), wide, nodes, buffers)?, want));
+    }
+    Ok(())
+}
+
+#[test]
+fn small_blocks(rt: HostRuntime) -> Result<(), Fail> {
+    let both = Some((Some("x"), Some("y")));
+    let cases: [(i64, &[u8], Option<(Option<&str>, Option<&str>)>); 5] = [
+        (2, b"\0\0\0\0\x01\0\0\0\x02\0\0\0xy", both),
+        (2, b"\0\0\0\0\x01\0\0\0\x02\0\0\0x\xFF", None),
+        (2, b"\0\0\0\0\x02\0\0\0\x01\0\0\0xy", None),
+        (1 << 31, b"\0\0\0\0\x01\0\0\0\x02\0\0\0xy", None),
+        (-1, b"\0\0\0\0\x01\0\0\0\x02\0\0\0xy", None),
+    ];
+    for (rows, body, want) in cases {
+        assert!(rt; are_two(block(rt.alloc(), rows, 12, body)?, want), "{rows}");
     }
     Ok(())
 }

@@ -23,58 +23,70 @@ fn raw(
     raw_of(alloc, Kind::I64, Layout::Plain, meta, body)
 }
 
-// Whether all three numbers are read, or the batch is bad.
-fn is_read(
-    alloc: Global,
-    length: i64,
-    nodes: &[(i64, i64)],
-    buffers: &[(i64, i64)],
-    is_good: bool,
-) -> Result<bool, Fail> {
-    let raw = raw(alloc, length, nodes, buffers)?;
+// Whether all three numbers are read.
+fn is_good(alloc: Global, null_count: i64, validity: (i64, i64)) -> Result<bool, Fail> {
+    let raw = raw(alloc, 3, &[(3, null_count)], &[validity, (0, 24)])?;
     match decoded(alloc, &[], &raw)? {
-        None => Ok(!is_good),
+        None => Ok(false),
         Some(batch) => {
             let want = [Cell::Int(1), Cell::Int(2), Cell::Int(-1)];
-            Ok(is_good && are_cells(alloc, &batch, 0, &want)?)
+            Ok(are_cells(alloc, &batch, 0, &want)?)
         }
     }
 }
 
+fn is_bad(
+    alloc: Global,
+    length: i64,
+    nodes: &[(i64, i64)],
+    buffers: &[(i64, i64)],
+) -> Result<bool, Fail> {
+    let raw = raw(alloc, length, nodes, buffers)?;
+    Ok(decoded(alloc, &[], &raw)?.is_none())
+}
+
 #[test]
-fn lengths_nodes_and_buffers(rt: HostRuntime) -> Result<(), Fail> {
-    let node: &[(i64, i64)] = &[(3, 0)];
-    let both: &[(i64, i64)] = &[(0, 0), (0, 24)];
-    let cases: [(i64, &[(i64, i64)], &[(i64, i64)], bool); 23] = [
-        (3, node, both, true),
-        (3, &[(3, 5)], both, true),
-        (3, &[(3, -1)], &[(24, 0), (0, 24)], true),
-        (3, node, &[(16, 1), (0, 24)], true),
-        (-1, &[(-1, 0)], both, false),
-        (1 << 31, &[(1 << 31, 0)], both, false),
-        (i64::MIN, &[(i64::MIN, 0)], both, false),
-        (3, &[(2, 0)], both, false),
-        (3, &[(-3, 0)], both, false),
-        (3, &[], both, false),
-        (3, &[(3, 0), (3, 0)], both, false),
-        (3, node, &[], false),
-        (3, node, &[(0, 24)], false),
-        (3, node, &[(0, 0), (0, 24), (0, 0)], false),
-        (3, node, &[(0, 0), (0, 23)], false),
-        (3, node, &[(0, 0), (0, 25)], false),
-        (3, node, &[(0, 0), (1, 24)], false),
-        (3, node, &[(0, 0), (-1, 24)], false),
-        (3, node, &[(0, 0), (0, -24)], false),
-        (3, node, &[(25, 0), (0, 24)], false),
-        (3, node, &[(-1, 0), (0, 24)], false),
-        (3, node, &[(i64::MAX, 0), (0, 24)], false),
-        (3, node, &[(0, 0), (i64::MAX, i64::MAX)], false),
+fn good_and_bad_lengths_and_nodes(rt: HostRuntime) -> Result<(), Fail> {
+    for (null_count, validity) in [(0, (0, 0)), (5, (0, 0)), (-1, (24, 0)), (0, (16, 1))] {
+        assert!(rt; is_good(rt.alloc(), null_count, validity)?);
+    }
+    let cases: [(i64, &[(i64, i64)]); 8] = [
+        (-1, &[(-1, 0)]),
+        (1 << 31, &[(1 << 31, 0)]),
+        (i64::MIN, &[(i64::MIN, 0)]),
+        (i64::MAX, &[(i64::MAX, 0)]),
+        (3, &[(2, 0)]),
+        (3, &[(-3, 0)]),
+        (3, &[]),
+        (3, &[(3, 0), (3, 0)]),
     ];
-    for (length, nodes, buffers, is_good) in cases {
+    for (length, nodes) in cases {
         assert!(rt;
-            is_read(rt.alloc(), length, nodes, buffers, is_good)?,
-            "{nodes:?} {buffers:?}"
+            is_bad(rt.alloc(), length, nodes, &[(0, 0), (0, 24)])?,
+            "{length}"
         );
+    }
+    Ok(())
+}
+
+#[test]
+fn bad_buffers(rt: HostRuntime) -> Result<(), Fail> {
+    let cases: [&[(i64, i64)]; 12] = [
+        &[],
+        &[(0, 24)],
+        &[(0, 0), (0, 24), (0, 0)],
+        &[(0, 0), (0, 23)],
+        &[(0, 0), (0, 25)],
+        &[(0, 0), (1, 24)],
+        &[(0, 0), (-1, 24)],
+        &[(0, 0), (0, -24)],
+        &[(25, 0), (0, 24)],
+        &[(-1, 0), (0, 24)],
+        &[(i64::MAX, 0), (0, 24)],
+        &[(0, 0), (i64::MAX, i64::MAX)],
+    ];
+    for buffers in cases {
+        assert!(rt; is_bad(rt.alloc(), 3, &[(3, 0)], buffers)?);
     }
     Ok(())
 }

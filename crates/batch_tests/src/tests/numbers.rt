@@ -17,42 +17,37 @@ fn is_fixed(
     is_column(alloc, kind, Layout::Plain, rows, &[validity, values], want)
 }
 
-const WORDS: &[u8] = b"\x01\0\0\0\0\0\0\x80";
-
-const LONGS: &[u8] = b"\x01\0\0\0\0\0\0\0\0\0\0\0\0\0\0\x80";
-
-const SHORT: &[u8] = b"\x01\0\0\0\0\0\0\0\0\0\0\0\0\0\0";
+// Whether there are two values, of which the first is 1 and the second the least there is.
+fn has_width(alloc: Global, kind: Kind, values: &[u8], least: i64) -> Result<bool, Fail> {
+    let both = [Cell::Int(1), Cell::Int(least)];
+    let first = [Cell::Int(1), Cell::Null];
+    let second = [Cell::Null, Cell::Int(least)];
+    Ok(
+        is_fixed(alloc, kind, 2, &[], values, Some(&both))?
+            && is_fixed(alloc, kind, 2, &[1], values, Some(&first))?
+            && is_fixed(alloc, kind, 2, &[2, 0xFF], values, Some(&second))?
+            && is_fixed(alloc, kind, 0, &[], &[], Some(&[]))?
+            && is_fixed(alloc, kind, 3, &[], values, None)?,
+    )
+}
 
 #[test]
 fn whole_numbers(rt: HostRuntime) -> Result<(), Fail> {
-    let one = Cell::Int(1);
-    let bytes = [one, Cell::Int(-0x80)];
-    let shorts = [one, Cell::Int(-0x8000)];
-    let words = [one, Cell::Int(-0x8000_0000)];
-    let longs = [one, Cell::Int(i64::MIN)];
-    let first = [one, Cell::Null];
-    let second = [Cell::Null, Cell::Int(i64::MIN)];
-    let cases: [(Kind, i64, &[u8], &[u8], Option<&[Cell<'_>]>); 13] = [
-        (Kind::I8, 2, &[], b"\x01\x80", Some(&bytes)),
-        (Kind::I16, 2, &[3], b"\x01\0\0\x80", Some(&shorts)),
-        (Kind::I32, 2, &[], WORDS, Some(&words)),
-        (Kind::Date, 2, &[3], WORDS, Some(&words)),
-        (Kind::I64, 2, &[], LONGS, Some(&longs)),
-        (Kind::Timestamp, 2, &[3], LONGS, Some(&longs)),
-        (Kind::I8, 2, &[1], b"\x01\x80", Some(&first)),
-        (Kind::I64, 2, &[2, 0xFF], LONGS, Some(&second)),
-        (Kind::I64, 2, &[], SHORT, None),
-        (Kind::I64, 2, &[0], SHORT, None),
-        (Kind::I8, 3, &[], b"\x01\x80", None),
-        (Kind::I32, 0, &[], b"", Some(&[])),
-        (Kind::I32, 1, &[], WORDS, Some(&[one])),
+    let word = b"\x01\0\0\0\0\0\0\x80";
+    let long = b"\x01\0\0\0\0\0\0\0\0\0\0\0\0\0\0\x80";
+    let cases: [(Kind, &[u8], i64); 6] = [
+        (Kind::I8, b"\x01\x80", -0x80),
+        (Kind::I16, b"\x01\0\0\x80", -0x8000),
+        (Kind::I32, word, -0x8000_0000),
+        (Kind::Date, word, -0x8000_0000),
+        (Kind::I64, long, i64::MIN),
+        (Kind::Timestamp, long, i64::MIN),
     ];
-    for (kind, rows, validity, values, want) in cases {
-        assert!(rt;
-            is_fixed(rt.alloc(), kind, rows, validity, values, want)?,
-            "{kind:?}"
-        );
+    for (kind, values, least) in cases {
+        assert!(rt; has_width(rt.alloc(), kind, values, least)?, "{kind:?}");
     }
+    let cut = b"\x01\0\0\0\0\0\0\0\0\0\0\0\0\0\0";
+    assert!(rt; is_fixed(rt.alloc(), Kind::I64, 2, &[0], cut, None)?);
     Ok(())
 }
 

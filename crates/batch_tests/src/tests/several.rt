@@ -46,6 +46,16 @@ fn backward(alloc: Global) -> Result<Raw, NoMemory> {
     })
 }
 
+// The column that has bad metadata.
+fn bad_column(alloc: Global) -> Result<Raw, NoMemory> {
+    Ok(Raw {
+        meta: meta(alloc)?,
+        columns: vec![in alloc; (2, Kind::I8, Layout::Plain)]?,
+        shapes: vec![in alloc; 2, 3, 2, 2]?,
+        body: body(alloc)?,
+    })
+}
+
 // No column of a file whose columns have so many buffers.
 fn no_columns(alloc: Global, meta: RecordMeta, shapes: &[u8]) -> Result<Raw, NoMemory> {
     Ok(Raw {
@@ -84,19 +94,19 @@ fn rows_of(alloc: Global, meta: RecordMeta, shapes: &[u8]) -> Result<Option<u64>
     }
 }
 
-// Batches of no columns have their rows where nodes and buffers are as many as the file's columns have.
-fn have_rows(alloc: Global) -> Result<bool, NoMemory> {
-    Ok(
-        rows_of(alloc, meta(alloc)?, &[2, 3, 2, 2])? == Some(2)
-            && rows_of(alloc, bare(alloc), &[])? == Some(7)
-            && rows_of(alloc, meta(alloc)?, &[2, 3, 2])? == None
-            && rows_of(alloc, meta(alloc)?, &[2, 3, 3, 2])? == None,
-    )
+#[test]
+fn columns_in_the_order_wanted(rt: HostRuntime) -> Result<(), Fail> {
+    assert!(rt; is_backward(rt.alloc())?);
+    assert!(rt; decoded(rt.alloc(), &[], &bad_column(rt.alloc())?)?.is_none());
+    Ok(())
 }
 
 #[test]
-fn some_columns_and_none(rt: HostRuntime) -> Result<(), Fail> {
-    assert!(rt; is_backward(rt.alloc())?);
-    assert!(rt; have_rows(rt.alloc())?);
+fn rows_without_columns(rt: HostRuntime) -> Result<(), Fail> {
+    let alloc = rt.alloc();
+    assert!(rt; rows_of(alloc, meta(alloc)?, &[2, 3, 2, 2])? == Some(2));
+    assert!(rt; rows_of(alloc, bare(alloc), &[])? == Some(7));
+    assert!(rt; rows_of(alloc, meta(alloc)?, &[2, 3, 2])? == None);
+    assert!(rt; rows_of(alloc, meta(alloc)?, &[2, 3, 3, 2])? == None);
     Ok(())
 }

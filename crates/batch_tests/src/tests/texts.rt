@@ -2,6 +2,7 @@
 use super::cells::Cell;
 use super::one_column::is_column;
 use arrow_meta::Layout;
+use std::alloc::Global;
 use std::test::Fail;
 use sub_types::Kind;
 
@@ -32,102 +33,100 @@ const HIGH: &[u8] = b"\0\0\0\0\0\0\0\0\x02\0\0\0\0\0\0\0\x02\0\0\0\0\0\0\0\x03\0
 // Their last has a byte too few.
 const CUT: &[u8] = b"\0\0\0\0\0\0\0\0\x02\0\0\0\0\0\0\0\x02\0\0\0\0\0\0\0\x03\0\0\0\0\0\0";
 
-const FREE: &[u8] = b"\xC3\x28c";
+// Whether three values with offsets of 4 bytes are these.
+fn is_small(
+    alloc: Global,
+    kind: Kind,
+    validity: &[u8],
+    offsets: &[u8],
+    bytes: &[u8],
+    want: Cells<'_>,
+) -> Result<bool, Fail> {
+    is_column(
+        alloc,
+        kind,
+        Layout::Plain,
+        3,
+        &[validity, offsets, bytes],
+        want,
+    )
+}
+
+// The same with offsets of 8 bytes.
+fn is_wide(
+    alloc: Global,
+    kind: Kind,
+    offsets: &[u8],
+    bytes: &[u8],
+    want: Cells<'_>,
+) -> Result<bool, Fail> {
+    is_column(alloc, kind, Layout::Wide, 3, &[&[], offsets, bytes], want)
+}
 
 #[test]
-fn texts_and_binaries(rt: HostRuntime) -> Result<(), Fail> {
-    let some = [Cell::Bytes(b"abc"), Cell::Null, Cell::Bytes(b"hi")];
+fn texts(rt: HostRuntime) -> Result<(), Fail> {
+    let with_null = [Cell::Bytes(b"abc"), Cell::Null, Cell::Bytes(b"hi")];
     let all = [
         Cell::Bytes(b"abc"),
         Cell::Bytes(b"XXXX"),
         Cell::Bytes(b"hi"),
     ];
-    let bytes = [
+    let cases: [(&[u8], &[u8], &[u8], Cells<'_>); 9] = [
+        (&[5], RISING, NOT_TEXT, Some(&with_null)),
+        (&[], RISING, TEXT, Some(&all)),
+        (&[0xFF], RISING, b"zzabcXXXXhi and more", Some(&all)),
+        (&[], RISING, NOT_TEXT, None),
+        (&[5], FALLING, NOT_TEXT, None),
+        (&[], PAST, TEXT, None),
+        (&[], BELOW, TEXT, None),
+        (&[], SHORT, TEXT, None),
+        (&[], NEGATIVE, TEXT, None),
+    ];
+    for (validity, offsets, bytes, want) in cases {
+        assert!(rt; is_small(rt.alloc(), Kind::Text, validity, offsets, bytes, want)?);
+    }
+    Ok(())
+}
+
+#[test]
+fn binaries_and_wide_offsets(rt: HostRuntime) -> Result<(), Fail> {
+    let free = [
         Cell::Bytes(b"abc"),
         Cell::Bytes(b"\xFF\xFF\xFF\xFF"),
         Cell::Bytes(b"hi"),
     ];
-    let wide = [Cell::Bytes(b"ab"), Cell::Bytes(b""), Cell::Bytes(b"c")];
-    let free = [
+    assert!(rt; is_small(rt.alloc(), Kind::Binary, &[], RISING, NOT_TEXT, Some(&free))?);
+    assert!(rt; is_small(rt.alloc(), Kind::Binary, &[], FALLING, NOT_TEXT, None)?);
+    let all = [Cell::Bytes(b"ab"), Cell::Bytes(b""), Cell::Bytes(b"c")];
+    let no_text = [
         Cell::Bytes(b"\xC3\x28"),
         Cell::Bytes(b""),
         Cell::Bytes(b"c"),
     ];
-    let cases: [(i64, Kind, Layout, [&[u8]; 3], Cells<'_>); 20] = [
-        (
-            3,
-            Kind::Text,
-            Layout::Plain,
-            [&[5], RISING, NOT_TEXT],
-            Some(&some),
-        ),
-        (
-            3,
-            Kind::Text,
-            Layout::Plain,
-            [&[], RISING, TEXT],
-            Some(&all),
-        ),
-        (
-            3,
-            Kind::Text,
-            Layout::Plain,
-            [&[0xFF], RISING, TEXT],
-            Some(&all),
-        ),
-        (3, Kind::Text, Layout::Plain, [&[], RISING, NOT_TEXT], None),
-        (
-            3,
-            Kind::Text,
-            Layout::Plain,
-            [&[5], FALLING, NOT_TEXT],
-            None,
-        ),
-        (3, Kind::Text, Layout::Plain, [&[], PAST, TEXT], None),
-        (3, Kind::Text, Layout::Plain, [&[], BELOW, TEXT], None),
-        (3, Kind::Text, Layout::Plain, [&[], SHORT, TEXT], None),
-        (3, Kind::Text, Layout::Plain, [&[], NEGATIVE, TEXT], None),
-        (0, Kind::Text, Layout::Plain, [&[], &[], TEXT], Some(&[])),
-        (0, Kind::Text, Layout::Plain, [&[], BELOW, TEXT], Some(&[])),
-        (
-            3,
-            Kind::Binary,
-            Layout::Plain,
-            [&[], RISING, NOT_TEXT],
-            Some(&bytes),
-        ),
-        (
-            3,
-            Kind::Binary,
-            Layout::Plain,
-            [&[], FALLING, NOT_TEXT],
-            None,
-        ),
-        (
-            3,
-            Kind::Text,
-            Layout::Wide,
-            [&[], WIDE, b"abc"],
-            Some(&wide),
-        ),
-        (3, Kind::Text, Layout::Wide, [&[], CUT, b"abc"], None),
-        (3, Kind::Text, Layout::Wide, [&[], HIGH, b"abc"], None),
-        (3, Kind::Text, Layout::Wide, [&[], WIDE, FREE], None),
-        (0, Kind::Text, Layout::Wide, [&[], &[], TEXT], Some(&[])),
-        (
-            3,
-            Kind::Binary,
-            Layout::Wide,
-            [&[], WIDE, FREE],
-            Some(&free),
-        ),
-        (3, Kind::Binary, Layout::Wide, [&[], HIGH, FREE], None),
+    let cases: [(Kind, &[u8], &[u8], Cells<'_>); 8] = [
+        (Kind::Text, WIDE, b"abc", Some(&all)),
+        (Kind::Text, CUT, b"abc", None),
+        (Kind::Text, HIGH, b"abc", None),
+        (Kind::Text, WIDE, b"\xC3\x28c", None),
+        (Kind::Binary, WIDE, b"abc", Some(&all)),
+        (Kind::Binary, CUT, b"abc", None),
+        (Kind::Binary, HIGH, b"abc", None),
+        (Kind::Binary, WIDE, b"\xC3\x28c", Some(&no_text)),
     ];
-    for (rows, kind, layout, buffers, want) in cases {
-        assert!(rt;
-            is_column(rt.alloc(), kind, layout, rows, &buffers, want)?,
-            "{buffers:?}"
-        );
+    for (kind, offsets, bytes, want) in cases {
+        assert!(rt; is_wide(rt.alloc(), kind, offsets, bytes, want)?);
+    }
+    Ok(())
+}
+
+#[test]
+fn no_texts(rt: HostRuntime) -> Result<(), Fail> {
+    let offsets: [&[u8]; 3] = [&[], b"\0\0\0", b"\x07\0\0\0"];
+    for offsets in offsets {
+        for layout in [Layout::Plain, Layout::Wide] {
+            let buffers: [&[u8]; 3] = [&[], offsets, b"abc"];
+            assert!(rt; is_column(rt.alloc(), Kind::Text, layout, 0, &buffers, Some(&[]))?);
+        }
     }
     Ok(())
 }
