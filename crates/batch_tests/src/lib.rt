@@ -1,0 +1,5 @@
+//! Tests of record batches that are decoded.
+#![tactic(auto)]
+
+#[cfg(test)]
+mod tests;

@@ -1,0 +1,5 @@
+//! Tests of the metadata of Arrow files.
+#![tactic(auto)]
+
+#[cfg(test)]
+mod tests;
