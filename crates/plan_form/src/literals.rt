@@ -13,12 +13,7 @@ use sub_types::Value;
 pub(crate) fn are_rows(width: usize, rows: &[LiteralRow]) -> bool
     ensures { result ≡ list_all (λ row. is_some (spec.row_of width row)) rows.now }
 {
-    for row in rows {
-        if !is_row(width, row) {
-            return false;
-        }
-    }
-    true
+    rows.iter().all(|row| is_row(width, row))
 }
 
 fn is_row(width: usize, row: &LiteralRow) -> bool
@@ -30,12 +25,9 @@ fn is_row(width: usize, row: &LiteralRow) -> bool
 fn are_numbers(literals: &[RawLiteral]) -> bool
     ensures { result ≡ list_all (λ literal. is_some (spec.literal_of literal)) literals.now }
 {
-    for literal in literals {
-        if !matches!(literal, RawLiteral::I64 { nullable: false, .. }) {
-            return false;
-        }
-    }
-    true
+    literals
+        .iter()
+        .all(|literal| matches!(literal, RawLiteral::I64 { nullable: false, .. }))
 }
 
 /// The value at a place of a row of such literals.

@@ -1,11 +1,12 @@
 // The batches of a virtual table.
 ghost use Rattle.std.specs.Prelude.{◌≡◌, ◌<◌, true, map, length, IfOk};
-ghost use Rattle.std.specs.List.{All, list_all, range_with_len};
+ghost use Rattle.std.specs.List.{All, flat_map, list_all};
 ghost use Rattle.sub_types.specs.Value.{Fits};
 ghost use Rattle.batch.specs.BatchRows.{rows_of, types_of};
 ghost use Rattle.batch.specs.Column.{column_values};
-ghost use Rattle.plan_form.specs.Form.{virtual_batches, is_required_i64};
+ghost use Rattle.plan_form.specs.Form.{is_required_i64};
 ghost use Rattle.plan_form.specs.Rows.{AreRows, values_in, value_at};
+ghost use Rattle.plan_form.specs.Seen.{AreBatches};
 
 use crate::literals::value_in;
 use batch::{Batch, Column, ColumnBuilder};
@@ -24,10 +25,8 @@ pub(crate) fn batches_of(
 ) -> Result<Vec<Batch>, NoMemory>
     requires whole { list_all is_required_i64 types.now ≡ true }
     requires literal { AreRows (length types.now) rows.now }
-    ensures rows { IfOk result (λ batches. map rows_of batches.items ≡ virtual_batches (map values_in rows.now)) }
-    ensures types { IfOk result (λ batches. All (λ batch. types_of batch ≡ types.now) batches.items) }
-    ensures fit { IfOk result (λ batches. All (λ batch. All (Fits types.now) (rows_of batch)) batches.items) }
-    ensures numbered { IfOk result (λ batches. map (λ batch. batch.number) batches.items ≡ range_with_len 0 (length batches.items)) }
+    ensures rows { IfOk result (λ batches. flat_map rows_of batches.items ≡ map values_in rows.now) }
+    ensures batches { IfOk result (λ batches. AreBatches types.now batches.items) }
 {
     let mut batches = Vec::new(alloc);
     for number in 0..(rows.len() + 1023) / BATCH_ROWS {

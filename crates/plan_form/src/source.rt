@@ -65,7 +65,7 @@ fn joined(alloc: Global, names: &[ByteList]) -> Result<ByteList, NoMemory>
     let Some((first, rest)) = names.split_first() else {
         return Ok(ByteList::from_vec(Vec::new(alloc)));
     };
-    let mut bytes = first.bytes().to_vec(alloc)?;
+    let mut bytes = first.copy()?.into_vec();
     for name in rest {
         bytes.push(b'.')?;
         bytes.extend_from_slice(name.bytes())?;

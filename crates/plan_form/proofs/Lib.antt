@@ -1,0 +1,5 @@
+pub mod StepLaws
+pub mod CutLaws
+pub mod NameLaws
+pub mod LiteralLaws
+pub mod BatchLaws
