@@ -1,5 +1,5 @@
 -- Rows in batches.
-use Rattle.std.proofs.Common.{◌≡◌, ◌∙◌, sym, ap, refl, ℕ, zero, suc, ◌+◌, ◌-◌, ◌*◌, ◌/◌, ◌%◌, ◌<◌, ◌≤◌, List, [], ◌∷◌, ◌++◌, length, min, take, drop, map, zero-add, arith}
+use Rattle.std.proofs.Common.{◌≡◌, ◌∙◌, sym, ap, refl, ℕ, zero, suc, ◌+◌, ◌-◌, ◌*◌, ◌/◌, List, [], ◌∷◌, ◌++◌, length, min, take, drop, map, zero-add, arith}
 use Rattle.std.specs.Fork.{slice_chunk}
 use Rattle.std.specs.List.{flat_map, range_with_len, slice_range}
 use Rattle.sub_types.specs.declared.value.Value.{Value}

@@ -3,3 +3,4 @@ pub mod CutLaws
 pub mod NameLaws
 pub mod LiteralLaws
 pub mod BatchLaws
+pub mod FormLaws

@@ -1,5 +1,5 @@
 -- Rows of literals of the form.
-use Rattle.std.proofs.Common.{◌≡◌, ◌∙◌, sym, ap, refl, subst, ℕ, ◌+◌, ◌<◌, List, [], ◌∷◌, ◌++◌, length, get_or, take, slice_get, zero-add, map, Bool, true, false, Option, Some, None, is_some, unwrap_or, ◌==◌, eqb-true, arith}
+use Rattle.std.proofs.Common.{◌≡◌, ◌∙◌, sym, ap, refl, subst, ℕ, ◌+◌, ◌<◌, List, [], ◌∷◌, ◌++◌, length, get_or, take, slice_get, zero-add, map, true, false, Option, Some, None, is_some, unwrap_or, ◌==◌, eqb-true, arith}
 use Rattle.std.specs.List.{All, list_all, range_with_len}
 use Rattle.std.specs.Option.{option_map}
 use Rattle.std.proofs.Math.ListN.{get_or-map}
@@ -10,7 +10,7 @@ use Rattle.std.proofs.lemmas.List.Elements.{All-head, All-tail, All-nil, All-pus
 use Rattle.sub_types.specs.declared.kind.Ty.{Ty}
 use Rattle.sub_types.specs.declared.value.Value.{Value}
 use Rattle.sub_types.specs.declared.value.Value.TheVariants.{Null}
-use Rattle.sub_types.specs.Value.{Fits, FitsTy, InKind, IsShort}
+use Rattle.sub_types.specs.Value.{Fits, InKind, IsShort}
 use Rattle.sub_types.specs.Rows.{across, transpose}
 use Rattle.plan_tree.specs.declared.literal.RawLiteral.{RawLiteral}
 use Rattle.plan_tree.specs.declared.literal.RawLiteral.TheVariants as literals

@@ -1,6 +1,6 @@
 -- The form of plan that is run: a root over a read of a named table, or of a virtual table of required 64-bit whole
 -- numbers, without an emit, a filter and a projection (Substrait's `Plan` and `ReadRel`).
-use Rattle.std.specs.Prelude.{ℕ, ◌+◌, ℤ, pos, negsuc, ◌-◌, ◌/◌, List, [], ◌∷◌, Bool, true, false, Option, Some, None, ◌&&◌, not, ◌==◌, nat_le, map, length, is_none}
+use Rattle.std.specs.Prelude.{ℕ, ◌+◌, ℤ, pos, ◌/◌, List, [], Bool, true, false, Option, Some, None, ◌&&◌, not, ◌==◌, nat_le, map, length, is_none}
 use Rattle.std.specs.Fork.{slice_chunk}
 use Rattle.std.specs.List.{list_all, sum_by, range_with_len, join_with_byte}
 use Rattle.sub_types.specs.declared.kind.Kind.{Kind}
@@ -9,12 +9,10 @@ use Rattle.sub_types.specs.declared.kind.Ty.{Ty}
 use Rattle.sub_types.specs.declared.value.Value.{Value}
 use Rattle.sub_types.specs.declared.value.Value.TheVariants as values
 use Rattle.plan_tree.specs.declared.plan.PlanTree.{PlanTree}
-use Rattle.plan_tree.specs.declared.plan.RootDecl.{RootDecl}
 use Rattle.plan_tree.specs.declared.literal.RawLiteral.{RawLiteral}
 use Rattle.plan_tree.specs.declared.literal.RawLiteral.TheVariants as literals
 use Rattle.plan_tree.specs.declared.types.RawType.{RawType}
 use Rattle.plan_tree.specs.declared.types.RawType.TheVariants as types
-use Rattle.plan_tree.specs.declared.types.StructType.{StructType}
 use Rattle.plan_tree.specs.declared.read.NamedStruct.{NamedStruct}
 use Rattle.plan_tree.specs.declared.read.LiteralRow.{LiteralRow}
 use Rattle.plan_tree.specs.declared.read.VirtualTable.{VirtualTable, out-VirtualTable}

@@ -1,5 +1,5 @@
 -- What is seen of a form in memory, and what else is known of it.
-use Rattle.std.specs.Prelude.{ℕ, ◌≡◌, ◌≤◌, List, map, length}
+use Rattle.std.specs.Prelude.{◌≡◌, ◌≤◌, List, map, length}
 use Rattle.std.specs.List.{All, flat_map, sum_by, range_with_len}
 use Rattle.sub_types.specs.declared.kind.Ty.{Ty}
 use Rattle.sub_types.specs.Kind.{IsKind}

@@ -1,7 +1,8 @@
 // What is read (Substrait's `ReadRel`, its oneof `read_type`).
-ghost use Rattle.std.specs.Prelude.{◌≡◌, length, IfOk, IfSome};
+ghost use Rattle.std.specs.Prelude.{◌≡◌, ◌&&◌, is_some, IfOk, IfSome};
 ghost use Rattle.std.specs.List.{join_with_byte, list_all};
 ghost use Rattle.std.specs.Option.{option_map};
+ghost use Rattle.plan_tree.specs.declared.read.VirtualTable.{out-VirtualTable};
 ghost use Rattle.plan_form.specs.Form as spec;
 ghost use Rattle.plan_form.specs.Seen.{source_seen, HasBatches};
 
@@ -42,11 +43,28 @@ fn rows_in(
     ensures source { IfOk result (λ found. option_map source_seen found ≡ option_map spec.Rows (spec.table_rows types.now table.now)) }
     ensures batches { IfOk result (λ found. IfSome found (HasBatches types.now)) }
 {
-    let rows = table.values.as_slice();
-    if !table.expressions.is_empty() || !are_whole(types) || !are_rows(types.len(), rows) {
+    if !holds_rows(types, table) {
         return Ok(None);
     }
-    Ok(Some(TableSource::Rows(batches_of(alloc, types, rows)?)))
+    Ok(Some(TableSource::Rows(batches_of(
+        alloc,
+        types,
+        table.values.as_slice(),
+    )?)))
+}
+
+// Whether a virtual table is of the form.
+fn holds_rows(types: &[Ty], table: &VirtualTable) -> bool
+    ensures { result ≡ is_some (spec.table_rows types.now table.now) }
+{
+    is_plain(types, table) && are_rows(types.len(), table.values.as_slice())
+}
+
+// Whether it has no expressions, and required 64-bit whole numbers alone.
+fn is_plain(types: &[Ty], table: &VirtualTable) -> bool
+    ensures { result ≡ (spec.is_empty (out-VirtualTable table.now).expressions && list_all spec.is_required_i64 types.now) }
+{
+    table.expressions.is_empty() && are_whole(types)
 }
 
 // Whether each type is a required 64-bit whole number.

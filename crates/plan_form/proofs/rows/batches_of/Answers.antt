@@ -1,4 +1,5 @@
-use Rattle.std.proofs.Common.{◌≡◌, ◌∙◌, ◌+◌, ◌/◌, ap, sym, map, length, arith}
+use Rattle.std.proofs.Common.{◌≡◌, ◌∙◌, ◌+◌, ◌*◌, ◌/◌, ap, map, length, min, arith}
+use Rattle.std.specs.List.{slice_range}
 use Rattle.std.proofs.lemmas.List.{length-map}
 use Rattle.plan_form.specs.Form.{BATCH_ROWS}
 use Rattle.plan_form.specs.Rows.{values_in}
@@ -12,9 +13,12 @@ loop-number-init c = rw c.new-batches.ensures.items (MadeBatches-none c.args.typ
 pub loop-number-preserved : goal.loop-number-preserved
 loop-number-preserved c =
     let batch = c.in_ok-batch_of.field-0 in
-    let h = c.in_ok-batch_of.ensures.rows in
     let clauses = c.in_ok-batch_of.ensures in
-    rw c.in_ok-push.ensures.items (MadeBatches-more c.args.types.now (map values_in c.args.rows.now) c.loop-number.batches.items c.loop-number.number batch ? clauses.types clauses.fit clauses.number c.loop-number.invariant)
+    let rows = c.args.rows.now in
+    let from = c.loop-number.number * BATCH_ROWS in
+    let cut : c.min-to.result ≡ min (length rows) (from + BATCH_ROWS) = omega (arith, c.min-to.ensures) in
+    let here = clauses.rows ∙ ap (λ to. map values_in (slice_range rows from to)) cut ∙ batch-map values_in rows c.loop-number.number in
+    rw c.in_ok-push.ensures.items (MadeBatches-more c.args.types.now (map values_in c.args.rows.now) c.loop-number.batches.items c.loop-number.number batch here clauses.types clauses.fit clauses.number c.loop-number.invariant)
 
 pub returns-clause-rows : goal.returns-clause-rows
 returns-clause-rows c =

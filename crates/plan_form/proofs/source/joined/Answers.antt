@@ -1,4 +1,4 @@
-use Rattle.std.proofs.Common.{◌∙◌, ◌∷◌, ◌++◌, ◌+◌, [], take, sym, ap, arith}
+use Rattle.std.proofs.Common.{◌∙◌, ◌∷◌, ◌++◌, ◌+◌, [], take, sym, ap}
 use Rattle.std.specs.List.{join_with_byte}
 use Rattle.plan_form.proofs.NameLaws.{join_with_byte-first, join_with_byte-more, join_with_byte-all}
 use Rattle.plan_form.proofs.source.joined.Goals as goal

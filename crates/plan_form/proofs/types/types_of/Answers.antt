@@ -1,4 +1,4 @@
-use Rattle.std.proofs.Common.{◌≡◌, ◌∙◌, ◌+◌, sym, ap, map, drop, arith}
+use Rattle.std.proofs.Common.{◌∙◌, ◌+◌, sym, ap, map, drop, arith}
 use Rattle.std.proofs.lemmas.List.Elements.{All-nil, All-push}
 use Rattle.sub_types.specs.Kind.{IsKind}
 use Rattle.plan_form.specs.Form as spec
