@@ -91,9 +91,10 @@ fits-across (column ∷ columns) n i (literal ∷ literals) sized below whole sa
     let here : get_or (column_values column) i Null ≡ literal_value literal = cc in
     let rest : across Null (map column_values columns) i ≡ map literal_value literals = cc in
     let good = good-literal literal parts.0 in
-    let P : Value → Type 0 = InKind column.ty.kind in
-    ( record { in_kind = subst P here (column.in_kind i Null (omega arith)); short = good.short; allowed = λ none. absurd (good.there none) }
-    , fits-across columns n i literals (All-tail (λ column. length (column_values column) ≡ n) column columns sized) below parts.1 rest)
+    let P : Value → Type 0 = InKind column.ty.kind in (
+      record { in_kind = subst P here (column.in_kind i Null (omega arith)); short = good.short; allowed = λ none. absurd (good.there none) },
+      fits-across columns n i literals (All-tail (λ column. length (column_values column) ≡ n) column columns sized) below parts.1 rest,
+    )
 
 -- the rows over columns fit the columns' types
 pub fits-rows : (columns : List Column) (width : ℕ) (rows : List LiteralRow) → AreRows width rows → All (λ column. length (column_values column) ≡ length rows) columns → map column_values columns ≡ map (λ j. map (value_at j) rows) (range_with_len 0 width) → All (Fits (map column_type columns)) (map values_in rows)

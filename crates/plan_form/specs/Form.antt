@@ -93,14 +93,14 @@ row_of width row = when (length row.fields == width) (all_of (map literal_of row
 abbrev pub table_rows : List Ty → VirtualTable → Option (List (List Value))
 table_rows types table =
     when (is_empty (out-VirtualTable table).expressions && list_all is_required_i64 types)
-      (all_of (map (row_of (length types)) (out-VirtualTable table).values))
+    (all_of (map (row_of (length types)) (out-VirtualTable table).values))
 
 -- a named table, or the rows of a virtual one
 abbrev pub source_of : List Ty → RawSource → Option Source
 source_of types source = elim (out-RawSource source) [
   | RawSource-F.VirtualTable table ↦ do
-      rows ← table_rows types table
-      Some (Rows rows)
+    rows ← table_rows types table
+    Some (Rows rows)
   | RawSource-F.NamedTable table ↦ when (not (is_empty table.names)) (Some (Named (join_with_byte 46 table.names)))
   | _ ↦ None
 ]
@@ -127,8 +127,8 @@ form_over names schema source = do
 unfoldable pub read_form : List (List ℕ) → RawRel → Option Form
 read_form names rel = elim (out-RawRel rel) [
   | RawRel-F.Read common base_schema filter projection source best_effort_filter ↦ do
-      schema ← when (is_direct common && is_none filter && is_none projection) base_schema
-      form_over names schema source
+    schema ← when (is_direct common && is_none filter && is_none projection) base_schema
+    form_over names schema source
   | _ ↦ None
 ]
 

@@ -58,11 +58,7 @@ pub fn form_of(alloc: Global, tree: &PlanTree) -> Result<Option<Form>, NoMemory>
 
 // The form of a read.
 #[tactic(auto, unfolding(crate::specs::Form::read_form))]
-fn read_form(
-    alloc: Global,
-    names: &Items<ByteList>,
-    rel: &RawRel,
-) -> Result<Option<Form>, NoMemory>
+fn read_form(alloc: Global, names: &Items<ByteList>, rel: &RawRel) -> Result<Option<Form>, NoMemory>
     ensures form { IfOk result (λ found. option_map form_seen found ≡ spec.read_form names.now rel.now) }
     ensures batches { IfOk result (λ found. IfSome found (λ form. HasBatches form.types.items form.source)) }
     ensures sound { IfOk result (λ found. IfSome found IsSound) }

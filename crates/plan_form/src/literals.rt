@@ -25,9 +25,13 @@ fn is_row(width: usize, row: &LiteralRow) -> bool
 fn are_numbers(literals: &[RawLiteral]) -> bool
     ensures { result ≡ list_all (λ literal. is_some (spec.literal_of literal)) literals.now }
 {
-    literals
-        .iter()
-        .all(|literal| matches!(literal, RawLiteral::I64 { nullable: false, .. }))
+    literals.iter().all(|literal| matches!(
+        literal,
+        RawLiteral::I64 {
+            nullable: false,
+            ..
+        }
+    ))
 }
 
 /// The value at a place of a row of such literals.

@@ -63,12 +63,7 @@ fn batch_of(
 }
 
 // The column at a place.
-fn column_at(
-    alloc: Global,
-    ty: Ty,
-    rows: &[LiteralRow],
-    index: usize,
-) -> Result<Column, NoMemory>
+fn column_at(alloc: Global, ty: Ty, rows: &[LiteralRow], index: usize) -> Result<Column, NoMemory>
     requires { ty.kind ≡ Kind.I64 }
     ensures values { IfOk result (λ column. column_values column ≡ map (value_at index) rows.now) }
     ensures ty { IfOk result (λ column. column.ty ≡ ty) }

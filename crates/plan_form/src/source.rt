@@ -46,11 +46,7 @@ fn rows_in(
     if !holds_rows(types, table) {
         return Ok(None);
     }
-    Ok(Some(TableSource::Rows(batches_of(
-        alloc,
-        types,
-        table.values.as_slice(),
-    )?)))
+    Ok(Some(TableSource::Rows(batches_of(alloc, types, table.values.as_slice())?)))
 }
 
 // Whether a virtual table is of the form.
