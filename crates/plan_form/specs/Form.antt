@@ -1,0 +1,144 @@
+-- The form of plan that is run: a root over a read of a named table, or of a virtual table of required 64-bit whole
+-- numbers, without an emit, a filter and a projection (Substrait's `Plan` and `ReadRel`).
+use Rattle.std.specs.Prelude.{ℕ, ◌+◌, ℤ, pos, ◌/◌, List, [], Bool, true, false, Option, Some, None, ◌&&◌, not, ◌==◌, nat_le, map, length, is_none}
+use Rattle.std.specs.Fork.{slice_chunk}
+use Rattle.std.specs.List.{list_all, sum_by, range_with_len, join_with_byte}
+use Rattle.sub_types.specs.declared.kind.Kind.{Kind}
+use Rattle.sub_types.specs.declared.kind.Kind.TheVariants as kinds
+use Rattle.sub_types.specs.declared.kind.Ty.{Ty}
+use Rattle.sub_types.specs.declared.value.Value.{Value}
+use Rattle.sub_types.specs.declared.value.Value.TheVariants as values
+use Rattle.plan_tree.specs.declared.plan.PlanTree.{PlanTree}
+use Rattle.plan_tree.specs.declared.literal.RawLiteral.{RawLiteral}
+use Rattle.plan_tree.specs.declared.literal.RawLiteral.TheVariants as literals
+use Rattle.plan_tree.specs.declared.types.RawType.{RawType}
+use Rattle.plan_tree.specs.declared.types.RawType.TheVariants as types
+use Rattle.plan_tree.specs.declared.read.NamedStruct.{NamedStruct}
+use Rattle.plan_tree.specs.declared.read.LiteralRow.{LiteralRow}
+use Rattle.plan_tree.specs.declared.read.VirtualTable.{VirtualTable, out-VirtualTable}
+use Rattle.plan_tree.specs.declared.read.RawSource.{RawSource, out-RawSource}
+use Rattle.plan_tree.specs.declared.raw_rel.RelCommon.{RelCommon}
+use Rattle.plan_tree.specs.declared.raw_rel.RelCommon.TheVariants as commons
+use Rattle.plan_tree.specs.declared.raw_rel.RawRel.{RawRel, out-RawRel}
+use Rattle.plan_tree.specs.declared.argument.FunctionArgument.TheOpen.{RawRel-F, RawSource-F}
+use Rattle.plan_form.specs.Steps.{◌>>=◌, when, only, all_of}
+
+-- the most columns
+abbrev pub MAX_COLUMNS : ℕ
+MAX_COLUMNS = 1024
+
+-- the most bytes of the root's names together, which is the most bytes of a plan
+abbrev pub MAX_NAMES : ℕ
+MAX_NAMES = 16777216
+
+-- the rows of a batch of a virtual table, but for the last
+abbrev pub BATCH_ROWS : ℕ
+BATCH_ROWS = 1024
+
+-- what is read: the table of this name, or these rows
+pub data Source : Type 0 where
+  Named : List ℕ → Source
+  Rows : List (List Value) → Source
+
+-- the names of the root, the names and types of the table's columns, and what is read
+pub record Form : Type 0 where
+  pub names : List (List ℕ)
+  pub columns : List (List ℕ)
+  pub types : List Ty
+  pub source : Source
+
+abbrev pub is_empty : {A : Type 0} → List A → Bool
+is_empty [] = true
+is_empty _ = false
+
+-- a type of this kind: 2 is required, every other number nullable
+abbrev pub type_as : Kind → ℕ → Ty
+type_as kind nullability = record { kind = kind; nullable = not (nullability == 2) }
+
+-- a decimal of 1 to 38 digits, of which at most all stand behind the point
+abbrev pub decimal_of : ℤ → ℤ → Option Kind
+decimal_of (pos precision) (pos scale) = when (nat_le 1 precision && nat_le precision 38 && nat_le scale precision) (Some (kinds.Decimal precision scale))
+decimal_of _ _ = None
+
+-- a type of the ten kinds
+abbrev pub type_of : RawType → Option Ty
+type_of (types.Bool nullability) = Some (type_as kinds.Bool nullability)
+type_of (types.I8 nullability) = Some (type_as kinds.I8 nullability)
+type_of (types.I16 nullability) = Some (type_as kinds.I16 nullability)
+type_of (types.I32 nullability) = Some (type_as kinds.I32 nullability)
+type_of (types.I64 nullability) = Some (type_as kinds.I64 nullability)
+type_of (types.String nullability) = Some (type_as kinds.Text nullability)
+type_of (types.Binary nullability) = Some (type_as kinds.Binary nullability)
+type_of (types.Timestamp nullability) = Some (type_as kinds.Timestamp nullability)
+type_of (types.Date nullability) = Some (type_as kinds.Date nullability)
+type_of (types.Decimal scale precision nullability) = do
+  kind ← decimal_of precision scale
+  Some (type_as kind nullability)
+type_of _ = None
+
+-- a required 64-bit whole number
+abbrev pub is_required_i64 : Ty → Bool
+is_required_i64 ty = elim ty.kind [ kinds.I64 ↦ not ty.nullable | _ ↦ false ]
+
+-- a 64-bit whole number that isn't nullable
+abbrev pub literal_of : RawLiteral → Option Value
+literal_of (literals.I64 value nullable) = when (not nullable) (Some (values.Int value))
+literal_of _ = None
+
+-- a row of so many literals
+abbrev pub row_of : ℕ → LiteralRow → Option (List Value)
+row_of width row = when (length row.fields == width) (all_of (map literal_of row.fields))
+
+-- the rows of a virtual table without expressions
+abbrev pub table_rows : List Ty → VirtualTable → Option (List (List Value))
+table_rows types table =
+    when (is_empty (out-VirtualTable table).expressions && list_all is_required_i64 types)
+    (all_of (map (row_of (length types)) (out-VirtualTable table).values))
+
+-- a named table, or the rows of a virtual one
+abbrev pub source_of : List Ty → RawSource → Option Source
+source_of types source = elim (out-RawSource source) [
+  | RawSource-F.VirtualTable table ↦ do
+    rows ← table_rows types table
+    Some (Rows rows)
+  | RawSource-F.NamedTable table ↦ when (not (is_empty table.names)) (Some (Named (join_with_byte 46 table.names)))
+  | _ ↦ None
+]
+
+-- no emit
+abbrev pub is_direct : Option RelCommon → Bool
+is_direct (Some (commons.Emit mapping)) = false
+is_direct _ = true
+
+-- as many names of the root and of the columns as types, and no more than there may be
+abbrev pub is_within : List (List ℕ) → List (List ℕ) → List RawType → Bool
+is_within names columns types =
+    length names == length types && length columns == length types && nat_le (length types) MAX_COLUMNS && nat_le (sum_by length names) MAX_NAMES
+
+-- the form of a read of this schema and source
+unfoldable pub form_over : List (List ℕ) → NamedStruct → RawSource → Option Form
+form_over names schema source = do
+  struct ← schema.struct_
+  types ← when (is_within names schema.names struct.types) (all_of (map type_of struct.types))
+  found ← source_of types source
+  Some (record { names = names; columns = schema.names; types = types; source = found })
+
+-- a plain read
+unfoldable pub read_form : List (List ℕ) → RawRel → Option Form
+read_form names rel = elim (out-RawRel rel) [
+  | RawRel-F.Read common base_schema filter projection source best_effort_filter ↦ do
+    schema ← when (is_direct common && is_none filter && is_none projection) base_schema
+    form_over names schema source
+  | _ ↦ None
+]
+
+-- a plan of one root, whose input is such a read
+unfoldable pub form_of : PlanTree → Option Form
+form_of tree = do
+  declared ← only tree.roots
+  input ← when declared.is_root declared.input
+  read_form declared.names input
+
+-- the rows of a virtual table in lists of 1,024, the last shorter, none for no rows
+unfoldable pub virtual_batches : List (List Value) → List (List (List Value))
+virtual_batches rows = map (slice_chunk rows BATCH_ROWS) (range_with_len 0 ((length rows + 1023) / BATCH_ROWS))

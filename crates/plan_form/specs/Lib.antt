@@ -1,0 +1,4 @@
+pub mod Steps
+pub mod Form
+pub mod Rows
+pub mod Seen
