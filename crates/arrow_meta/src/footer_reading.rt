@@ -32,6 +32,7 @@ pub fn read_footer(
     requires { length bytes.now < 2 ^ 31 }
     ensures footer { Answers footer_seen result (spec.footer_in bytes.now) }
     ensures shapes { IfOk result (λ read. All (λ field. IsShape field.shape) read.0.columns) }
+    ensures few_columns { IfOk result (λ read. length read.0.columns < 2 ^ 32) }
     ensures few_dictionaries { IfOk result (λ read. vec_len read.1 < 2 ^ 27) }
     ensures few_records { IfOk result (λ read. vec_len read.2 < 2 ^ 27) }
 {
@@ -118,6 +119,7 @@ fn columns(alloc: Global, fields: &Option<FbVector<'_>>) -> Result<Vec<FieldMeta
     requires offsets { IfSome fields.now (λ vector. vector.width ≡ 4) }
     ensures columns { Answers (λ columns. columns.items) result (columns_of (fields_of fields.now)) }
     ensures shapes { IfOk result (λ columns. All (λ field. IsShape field.shape) columns.items) }
+    ensures few { IfOk result (λ columns. vec_len columns < 2 ^ 32) }
 {
     match fields {
         None => Ok(Vec::new(alloc)),
@@ -130,6 +132,7 @@ fn vector_columns(alloc: Global, fields: &FbVector<'_>) -> Result<Vec<FieldMeta>
     requires offsets { fields.now.width ≡ 4 }
     ensures columns { Answers (λ columns. columns.items) result (columns_of (items_of fields.now)) }
     ensures shapes { IfOk result (λ columns. All (λ field. IsShape field.shape) columns.items) }
+    ensures few { IfOk result (λ columns. vec_len columns < 2 ^ 32) }
 {
     let mut columns = Vec::new(alloc);
     for i in 0..fields.len() {

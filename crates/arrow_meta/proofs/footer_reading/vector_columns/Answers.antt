@@ -22,4 +22,5 @@ loop-i-preserved c =
       columns = rw (c.in_ok-push.ensures.items, c.in_ok-of.ensures) (sym next ∙ c.loop-i.invariant.columns);
       shapes = rw c.in_ok-push.ensures.items (All-push (λ (f : FieldMeta). IsShape f.shape) c.loop-i.columns.items
           (record { name = c.in_ok-of.field-0; nullable = read.nullable; shape = c.in-Some.shape }) c.loop-i.invariant.shapes known);
+      count = omega (arith, c.in_ok-push.ensures.len, c.loop-i.invariant.count);
     }

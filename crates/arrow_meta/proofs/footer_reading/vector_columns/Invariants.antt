@@ -1,4 +1,4 @@
-use Rattle.std.proofs.Common.{◌≡◌, IsOk}
+use Rattle.std.proofs.Common.{◌≡◌, IsOk, vec_len}
 use Rattle.std.specs.List.{All}
 use Rattle.arrow_meta.specs.Known.{IsShape}
 use Rattle.arrow_meta.specs.Looked.{◌>>=◌}
@@ -13,4 +13,5 @@ invariant-loop-i l = record {
   readable : IsOk (rest_of (field_at l.fields) l.fields.count l.i);
   columns : prefixed l.columns.items (rest_of (field_at l.fields) l.fields.count l.i >>= columns_from l.i) ≡ columns_of (items_of l.fields);
   shapes : All (λ field. IsShape field.shape) l.columns.items;
+  count : vec_len l.columns ≡ l.i;
 }

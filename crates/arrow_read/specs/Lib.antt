@@ -1,0 +1,10 @@
+pub mod Told
+pub mod Refused
+pub mod Sound
+pub mod Known
+pub mod Seen
+pub mod BlockReads
+pub mod Extents
+pub mod Metas
+pub mod Sizes
+pub mod Indices
