@@ -1,0 +1,4 @@
+pub mod StepLaws
+pub mod WordLaws
+pub mod ColumnLaws
+pub mod TableLaws
