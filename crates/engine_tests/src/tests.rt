@@ -4,7 +4,4 @@ mod calls;
 mod failures;
 mod folders;
 mod notes;
-mod outcome;
-mod run;
 mod sure;
-mod worked;

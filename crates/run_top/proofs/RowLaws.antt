@@ -1,37 +1,41 @@
--- The rows of a virtual table, one more at a time.
-use Rattle.std.proofs.Common.{◌≡◌, ◌∙◌, sym, ap, refl, ℕ, ◌+◌, ◌<◌, List, [], ◌∷◌, ◌++◌, length, drop, get_or, map, Option, Some, None, append_assoc, ℤ, Bor, ◌≤◌, add-one, drop-cons, append-nil}
-use Rattle.std.proofs.Math.ListN.{drop_of_length-le}
-use Rattle.run_top.specs.Form.{row_of, rows_of, ◌>>=◌}
+-- The rows of batches, counted.
+use Rattle.std.proofs.Common.{◌≡◌, ◌<◌, ◌≤◌, refl, sym, subst, ℕ, List, [], ◌∷◌, length, length-append, arith, Ok, Err, true, false, nat_le}
+use Rattle.std.proofs.lemmas.Bool.{le-leb, lt-leb}
+use Rattle.std.specs.List.{flat_map}
+use Rattle.std.proofs.lemmas.List.Sums.{sum_by-cons}
+use Rattle.sub_types.specs.declared.value.Value.TheVariants.{Null}
+use Rattle.batch.specs.declared.batch.Batch.{Batch}
+use Rattle.batch.specs.BatchRows.{rows_of, columns_of}
+use Rattle.batch.proofs.RowLaws.{length-transpose}
+use Rattle.sub_types.specs.declared.kind.Ty.{Ty}
+use Rattle.sub_types.specs.declared.fault.FaultKind.TheVariants as kinds
+use Rattle.arrow_write.specs.Cut.{rows_in}
+use Rattle.run_top.specs.declared.status.Status.TheVariants as status
+use Rattle.run_top.specs.Words.{Reading}
+use Rattle.run_top.specs.Answer.{MAX_ROWS, done_of, done_with}
+use Rattle.run_top.specs.TableSeen.{table_seen}
 
--- the values so far before those of the rows that are left
-abbrev pub with_rows : List ℤ → Option (List ℤ) → Option (List ℤ)
-with_rows front None = None
-with_rows front (Some rest) = Some (front ++ rest)
+-- there are as many rows as the batches have
+pub length_rows : (batches : List Batch) → length (flat_map rows_of batches) ≡ rows_in batches
+length_rows [] = refl
+length_rows (batch ∷ batches) =
+    let rest = length_rows batches in
+    omega (arith, rest, length-append (rows_of batch) (flat_map rows_of batches), length-transpose Null batch.rows (columns_of batch), sum_by-cons (λ b. b.rows) batch batches)
 
-pub with_rows_none : (rest : Option (List ℤ)) → with_rows [] rest ≡ rest
-with_rows_none None = refl
-with_rows_none (Some rest) = refl
+-- a table with too many rows
+pub too_many : (reading : Reading) (names : List (List ℕ)) (types : List Ty) (batches : List Batch) → MAX_ROWS < rows_in batches
+    → done_with reading names types (table_seen batches) ≡ Err (status.DataFault (record { relation = 0; kind = kinds.TooManyRows }))
+unfolding done_with
+too_many reading names types batches over =
+    let test : nat_le (length (flat_map rows_of batches)) MAX_ROWS ≡ false =
+    lt-leb (length (flat_map rows_of batches)) MAX_ROWS (subst (λ (n : ℕ). MAX_ROWS < n) (sym (length_rows batches)) over) in
+    rw test refl
 
--- the blocks from a place on
-from_here : (blocks : List (Bor (List ℕ))) (i : ℕ) (d : Bor (List ℕ)) → i < length blocks → drop i blocks ≡ get_or blocks i d ∷ drop (i + 1) blocks
-from_here blocks i d h = rw (add-one, drop-cons blocks i d) refl
-
-one_more : (front : List ℤ) (value : ℤ) (rest : Option (List ℤ)) → with_rows (front ++ value ∷ []) rest ≡ with_rows front (rest >>= λ rows. Some (value ∷ rows))
-one_more front value None = refl
-one_more front value (Some rest) = ap Some (append_assoc front (value ∷ []) rest)
-
-pub rows_more : (front : List ℤ) (blocks : List (Bor (List ℕ))) (i : ℕ) (d : Bor (List ℕ)) (value : ℤ) → i < length blocks → row_of (get_or blocks i d).now ≡ Some value → with_rows (front ++ value ∷ []) (rows_of (map (λ block. block.now) (drop (i + 1) blocks))) ≡ with_rows front (rows_of (map (λ block. block.now) (drop i blocks)))
-rows_more front blocks i d value below e =
-    one_more front value (rows_of (map (λ block. block.now) (drop (i + 1) blocks)))
-    ∙ ap (λ found. with_rows front (found >>= λ v. rows_of (map (λ block. block.now) (drop (i + 1) blocks)) >>= λ rows. Some (v ∷ rows))) (sym e)
-    ∙ ap (λ left. with_rows front (rows_of (map (λ block. block.now) left))) (sym (from_here blocks i d below))
-
--- a row that isn't of the form
-pub rows_none : (front : List ℤ) (blocks : List (Bor (List ℕ))) (i : ℕ) (d : Bor (List ℕ)) → i < length blocks → row_of (get_or blocks i d).now ≡ None → with_rows front (rows_of (map (λ block. block.now) (drop i blocks))) ≡ None
-rows_none front blocks i d below e =
-    ap (λ left. with_rows front (rows_of (map (λ block. block.now) left))) (from_here blocks i d below)
-    ∙ ap (λ found. with_rows front (found >>= λ v. rows_of (map (λ block. block.now) (drop (i + 1) blocks)) >>= λ rows. Some (v ∷ rows))) e
-
--- nothing is left
-pub rows_end : (front : List ℤ) (blocks : List (Bor (List ℕ))) (i : ℕ) → length blocks ≤ i → with_rows front (rows_of (map (λ block. block.now) (drop i blocks))) ≡ Some front
-rows_end front blocks i end = ap (λ left. with_rows front (rows_of (map (λ block. block.now) left))) (drop_of_length-le blocks end) ∙ ap Some (append-nil front)
+-- a table with no more rows than there may be
+pub few_enough : (reading : Reading) (names : List (List ℕ)) (types : List Ty) (batches : List Batch) → rows_in batches ≤ MAX_ROWS
+    → done_with reading names types (table_seen batches) ≡ Ok (done_of reading names types (table_seen batches))
+unfolding done_with
+few_enough reading names types batches within =
+    let test : nat_le (length (flat_map rows_of batches)) MAX_ROWS ≡ true =
+    le-leb (length (flat_map rows_of batches)) MAX_ROWS (subst (λ (n : ℕ). n ≤ MAX_ROWS) (sym (length_rows batches)) within) in
+    rw test refl

@@ -1,55 +1,128 @@
 -- What a command line denotes over the files of a folder, and which statuses, files and reports fit it.
-use Rattle.std.specs.Prelude.{◌≡◌, ◌⊎◌, ℕ, ◌+◌, ◌/◌, List, [], ◌∷◌, Option, Result, Ok, Err, length, map, IsOkAnd}
+use Rattle.std.specs.Prelude.{◌≡◌, ◌⊎◌, ℕ, ◌+◌, ◌/◌, ◌^◌, List, [], ◌∷◌, Option, None, Result, Ok, Err, length, map, IsOkAnd, if◌then◌else◌, nat_le}
 use Rattle.std.specs.Option.{ok_or}
 use Rattle.std.specs.FinMap.{get}
 use Rattle.world.specs.Files.{Files, written, IsPartWritten}
-use Rattle.arrow_write.specs.Rows.{i64_file}
+use Rattle.sub_types.specs.declared.kind.Ty.{Ty}
+use Rattle.sub_types.specs.declared.value.Value.{Value}
+use Rattle.sub_types.specs.declared.fault.FaultKind.TheVariants as kinds
+use Rattle.arrow_meta.specs.File.{file_of}
 use Rattle.run_core.specs.Receipts.{IsBalanced, lists_of}
+use Rattle.plan_scan.specs.declared.flaw.Flaw.{Flaw}
+use Rattle.plan_scan.specs.declared.flaw.Flaw.TheVariants as flaws
+use Rattle.plan_tree.specs.declared.plan.PlanTree.{PlanTree}
+use Rattle.plan_parts.specs.Reader.{plan_of}
+use Rattle.plan_form.specs.Form.{Form, Source, Named, Rows, form_of}
 use Rattle.run_top.specs.declared.status.Status.{Status}
 use Rattle.run_top.specs.declared.status.Status.TheVariants as status
 use Rattle.run_top.specs.declared.status.Rule.TheVariants as rules
-use Rattle.run_top.specs.declared.status.FileRule.TheVariants as file_rules
+use Rattle.table_open.specs.declared.error.FileRule.TheVariants as file_rules
 use Rattle.run_top.specs.declared.status.Report.{Report}
 use Rattle.run_top.specs.declared.status.PipeReceipt.{PipeReceipt}
-use Rattle.run_top.specs.Words.{reading_of}
-use Rattle.run_top.specs.Form.{table_in}
+use Rattle.run_top.specs.Words.{Reading, reading_of}
+use Rattle.run_top.specs.Steps.{◌>>=◌}
+use Rattle.table_open.specs.Files.{TableFile}
+use Rattle.run_top.specs.Tables.{Table, all_blocks, count_blocks, table_stream, whole, named_table}
+use Rattle.run_top.specs.TableRead.{IsTableRefusal}
 
--- a run that was done: the out file's name, the workers, the number of rows, and the file
+-- the most bytes of a plan
+abbrev pub MAX_PLAN : ℕ
+MAX_PLAN = 16777216
+
+-- the most rows of an answer
+abbrev pub MAX_ROWS : ℕ
+MAX_ROWS = 2 ^ 36
+
+-- a run that was done: the out file's name, the workers, the number of rows and of input batches, and the file
 pub record Done : Type 0 where
   pub out : List ℕ
   pub workers : ℕ
   pub rows : ℕ
+  pub batches : ℕ
   pub file : List ℕ
 
-infixl 10 ◌>>=◌
--- what an outcome gives next, unless it is a refusal
-abbrev pub ◌>>=◌ : {A B : Type 0} → Result A Status → (A → Result B Status) → Result B Status
-(Ok x) >>= f = f x
-(Err refusal) >>= f = Err refusal
+-- the place of a flaw
+abbrev pub unreadable : Flaw → Status
+unreadable (flaws.Unreadable place) = status.PlanUnreadable place
+unreadable (flaws.TooDeep place) = status.PlanUnreadable place
 
--- the first refusal, or what is done: the words are read, the plan is found, it is of the form, and its table is the file
+-- a plan without a flaw
+abbrev pub flawless : Result PlanTree Flaw → Result PlanTree Status
+flawless (Ok tree) = Ok tree
+flawless (Err flaw) = Err (unreadable flaw)
+
+-- the tree of a plan's bytes, which aren't too many
+unfoldable pub tree_in : List ℕ → Result PlanTree Status
+tree_in bytes = if nat_le (length bytes) MAX_PLAN then flawless (plan_of bytes) else Err (status.PlanUnreadable MAX_PLAN)
+
+-- the form of a plan's bytes
+unfoldable pub form_in : List ℕ → Result Form Status
+form_in bytes = do
+  tree ← tree_in bytes
+  ok_or (form_of tree) (status.PlanRefused 0 rules.UnsupportedForm)
+
+-- the batches of so many rows of a virtual table: 1,024 rows each, the last shorter
+abbrev pub batch_count : ℕ → ℕ
+batch_count rows = (rows + 1023) / 1024
+
+-- the table of a plan of this form: its files are read, or its rows are at hand
+unfoldable pub source_table : Files → Reading → Form → Result Table Status
+source_table files reading form = elim form.source [
+  | Named name ↦ named_table files reading.bindings name form.columns form.types
+  | Rows rows ↦ Ok (record { rows = rows; batches = batch_count (length rows) })
+]
+
+-- the file of a table, under the names of the root and the types of the columns
+abbrev pub done_of : Reading → List (List ℕ) → List Ty → Table → Done
+done_of reading names types table =
+    record { out = reading.out; workers = reading.workers; rows = length table.rows; batches = table.batches; file = file_of names types table.rows }
+
+-- the same, unless its rows are too many
+unfoldable pub done_with : Reading → List (List ℕ) → List Ty → Table → Result Done Status
+done_with reading names types table =
+    if nat_le (length table.rows) MAX_ROWS
+    then Ok (done_of reading names types table)
+    else Err (status.DataFault (record { relation = 0; kind = kinds.TooManyRows }))
+
+-- the file that is written of a table's files
+abbrev pub out_file : Reading → List (List ℕ) → List Ty → List TableFile → Result (List ℕ) Status
+out_file reading names types files = do
+  table ← whole (count_blocks files) (table_stream 0 types files)
+  done ← done_with reading names types table
+  Ok done.file
+
+-- Files without a bad block that hold the same rows give the same file, however the rows are cut into files and record batches.
+abbrev pub SameRowsSameFile : Type 0
+SameRowsSameFile =
+    (reading : Reading) (names : List (List ℕ)) (types : List Ty) (a b : List TableFile) → (all_blocks 0 a).end ≡ None → (all_blocks 0 b).end ≡ None
+    → (all_blocks 0 a).rows ≡ (all_blocks 0 b).rows → out_file reading names types a ≡ out_file reading names types b
+
+-- the file of a plan of this form
+unfoldable pub done_in : Files → Reading → Form → Result Done Status
+done_in files reading form = do
+  table ← source_table files reading form
+  done_with reading form.names form.types table
+
+-- the first refusal, or what is done: the words are read, the plan is found and readable, it is of the form, its table is read, and
+-- its rows are the file
 unfoldable pub answer : List (List ℕ) → Files → Result Done Status
 answer words files = do
   reading ← ok_or (reading_of words) status.Usage
   plan ← ok_or (get files reading.plan) (status.FileRefused 0 file_rules.Missing)
-  table ← ok_or (table_in plan) (status.PlanRefused 0 rules.UnsupportedForm)
-  Ok (record { out = reading.out; workers = reading.workers; rows = length table.rows; file = i64_file table.name table.rows })
+  form ← form_in plan
+  done_in files reading form
 
--- the batches of so many rows: 1,024 rows each, the last shorter
-abbrev pub batch_count : ℕ → ℕ
-batch_count rows = (rows + 1023) / 1024
-
--- the receipt of the one read relation, of so many rows and workers: its batches are claimed and finished once each
-pub record IsReceiptOf (rows workers : ℕ) (receipt : PipeReceipt) : Type 0 where
+-- the receipt of the one read relation, of so many batches and workers: its batches are claimed and finished once each
+pub record IsReceiptOf (batches workers : ℕ) (receipt : PipeReceipt) : Type 0 where
   pub relation : receipt.relation ≡ 0
-  pub batches : receipt.batches ≡ batch_count rows
+  pub batches_is : receipt.batches ≡ batches
   pub seats : length receipt.workers.items ≡ workers
   pub balanced : IsBalanced receipt.batches (map lists_of receipt.workers.items) receipt.left.items
 
 -- what a report says of a run that was done
 pub record IsReport (done : Done) (report : Report) : Type 0 where
   pub rows : report.rows ≡ done.rows
-  pub receipt : (r : PipeReceipt) × (report.receipts.items ≡ r ∷ []) × IsReceiptOf done.rows done.workers r
+  pub receipt : (r : PipeReceipt) × (report.receipts.items ≡ r ∷ []) × IsReceiptOf done.batches done.workers r
 
 -- Which status and files fit an answer. A run that is done leaves the file under the out name and all others as they were; a
 -- refusal is the denoted one, and leaves all files as they were; a failed write leaves a prefix of the denoted file.
@@ -66,10 +139,31 @@ IsDenoted (Ok done) (status.Ok report) = IsReport done report
 IsDenoted (Ok done) refusal = ⊥
 IsDenoted (Err refusal) answered = answered ≡ refusal
 
+-- why a plan isn't run
+abbrev pub IsPlanRefusal : Status → Type 0
+IsPlanRefusal (status.PlanUnreadable place) = Unit {0}
+IsPlanRefusal (status.PlanRefused relation rule) = (relation ≡ 0) × (rule ≡ rules.UnsupportedForm)
+IsPlanRefusal status.NoMemory = Unit {0}
+IsPlanRefusal _ = ⊥
+
+-- what comes of rows that are written
+abbrev pub IsWriteOutcome : Status → Type 0
+IsWriteOutcome (status.Ok report) = Unit {0}
+IsWriteOutcome (status.DataFault fault) = fault ≡ record { relation = 0; kind = kinds.TooManyRows }
+IsWriteOutcome status.WriteFault = Unit {0}
+IsWriteOutcome status.NoMemory = Unit {0}
+IsWriteOutcome _ = ⊥
+
+-- what comes of a plan of the form
+abbrev pub IsOutcome : Status → Type 0
+IsOutcome (status.Ok report) = Unit {0}
+IsOutcome status.WriteFault = Unit {0}
+IsOutcome (status.DataFault fault) = IsTableRefusal (status.DataFault fault) ⊎ (fault ≡ record { relation = 0; kind = kinds.TooManyRows })
+IsOutcome refusal = IsTableRefusal refusal
+
 -- the answers that can come today, whatever the folder tells
 abbrev pub IsNamed : Status → Type 0
-IsNamed (status.PlanUnreadable place) = ⊥
 IsNamed (status.PlanRefused relation rule) = (relation ≡ 0) × (rule ≡ rules.UnsupportedForm)
-IsNamed (status.FileRefused file rule) = (file ≡ 0) × (rule ≡ file_rules.Missing)
-IsNamed (status.DataFault fault) = ⊥
+IsNamed (status.FileRefused file rule) = ((file ≡ 0) × (rule ≡ file_rules.Missing)) ⊎ IsTableRefusal (status.FileRefused file rule)
+IsNamed (status.DataFault fault) = IsTableRefusal (status.DataFault fault) ⊎ (fault ≡ record { relation = 0; kind = kinds.TooManyRows })
 IsNamed _ = Unit {0}

@@ -1,9 +1,11 @@
 pub mod Words
-pub mod Form
-pub mod Seen
 pub mod ReadingSeen
 pub mod Lines
 pub mod Said
 pub mod Found
 pub mod Alone
+pub mod Steps
+pub mod Tables
+pub mod TableSeen
+pub mod TableRead
 pub mod Answer

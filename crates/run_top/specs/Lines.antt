@@ -5,8 +5,8 @@ use Rattle.run_top.specs.declared.status.Status.{Status}
 use Rattle.run_top.specs.declared.status.Status.TheVariants as status
 use Rattle.run_top.specs.declared.status.Rule.{Rule}
 use Rattle.run_top.specs.declared.status.Rule.TheVariants as rules
-use Rattle.run_top.specs.declared.status.FileRule.{FileRule}
-use Rattle.run_top.specs.declared.status.FileRule.TheVariants as file_rules
+use Rattle.table_open.specs.declared.error.FileRule.{FileRule}
+use Rattle.table_open.specs.declared.error.FileRule.TheVariants as file_rules
 use Rattle.sub_types.specs.declared.fault.FaultKind.{FaultKind}
 use Rattle.sub_types.specs.declared.fault.FaultKind.TheVariants as faults
 

@@ -1,14 +1,17 @@
 //! The commands of the engine: words and files in, an answer, a line of notes and the out file.
 #![tactic(auto)]
 
-mod form;
+mod laws;
 mod line;
-mod message;
 mod plan;
 mod receipts;
+mod rows;
 mod run;
 mod status;
+mod tables;
 mod words;
 
+pub use laws::same_rows_same_file;
 pub use run::run_main;
-pub use status::{FileRule, PipeReceipt, Report, Rule, Status, exit_number};
+pub use status::{PipeReceipt, Report, Rule, Status, exit_number};
+pub use table_open::FileRule;

@@ -5,10 +5,11 @@ ghost use Rattle.std.specs.List.{flat_map};
 ghost use Rattle.run_top.specs.Lines.{rule_words, file_rule_words, fault_words, told_text, line_of};
 ghost use Rattle.run_top.specs.Said.{IsSaid, words_seen};
 
-use crate::status::{FileRule, Rule, Status};
+use crate::status::{Rule, Status};
 use itoa::Buffer;
 use std::alloc::Global;
 use sub_types::FaultKind;
+use table_open::FileRule;
 use world::Notes;
 
 /// A variant's name, and the numbers in the order of its fields.

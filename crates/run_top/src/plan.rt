@@ -2,11 +2,13 @@
 ghost use Rattle.std.specs.Prelude.{◌≡◌, ◌≢◌, Some, IfOk, IfSome};
 ghost use Rattle.std.specs.FinMap.{get};
 ghost use Rattle.world.specs.Counts.{HasCause};
-ghost use Rattle.run_top.specs.Found.{IsFound};
+ghost use Rattle.run_top.specs.Found.{IsFound, IsShort};
 
-use crate::message::MAX_PLAN;
 use std::alloc::Global;
 use world::{Folder, FolderError, Reader};
+
+/// The most bytes of a plan.
+pub(crate) const MAX_PLAN: usize = 16_777_216;
 
 /// What was found under the plan's name.
 #[derive(Debug, Drop)]
@@ -25,6 +27,7 @@ pub(crate) fn read_plan<F: Folder>(
     name: &str,
 ) -> Result<Found, FolderError>
     ensures found { IfOk result (λ found. IfSome (F.files folder.old) (λ files. IsFound found (get files name.now))) }
+    ensures short { IfOk result IsShort }
     ensures cause { HasCause FolderError.Failed (F.read_faults folder.old) (F.read_faults folder.new) result }
     ensures files { F.files folder.new ≡ F.files folder.old }
     ensures write_faults { F.write_faults folder.new ≡ F.write_faults folder.old }
@@ -40,6 +43,7 @@ pub(crate) fn read_plan<F: Folder>(
 // Reads all bytes of a file that isn't too long.
 fn read_whole<R: Reader>(alloc: Global, reader: &mut R) -> Result<Found, FolderError>
     ensures found { IfOk result (λ found. IfSome (R.bytes reader.old) (λ told. IsFound found (Some told))) }
+    ensures short { IfOk result IsShort }
     ensures there { result ≢ Ok Found.Missing }
     ensures cause { HasCause FolderError.Failed (R.faults reader.old) (R.faults reader.new) result }
 {

@@ -1,7 +1,7 @@
 // The receipts of a run on the calling thread.
 ghost use Rattle.std.specs.Prelude.{◌≡◌, ◌≤◌, length, IfOk, [], map};
+ghost use Rattle.std.specs.List.{range_with_len};
 ghost use Rattle.run_core.specs.Receipts.{IsBalanced, lists_of};
-ghost use Rattle.run_top.specs.Answer.{batch_count};
 ghost use Rattle.run_top.specs.Alone.{alone, workers_alone};
 
 use crate::status::PipeReceipt;
@@ -9,17 +9,19 @@ use run_core::Receipt;
 use std::alloc::Global;
 use sub_types::NoMemory;
 
-/// The receipt of a virtual table of at most 1,024 rows: the first worker claimed and finished its one batch, if it has one.
+/// The receipt of a table of so many batches: the first worker claimed and finished them all.
 #[tactic(auto, using(crate::proofs::AloneLaws::balanced_alone))]
-pub(crate) fn one_receipt(alloc: Global, rows: usize, workers: u32) -> Result<PipeReceipt, NoMemory>
-    requires rows { rows ≤ 1024 }
+pub(crate) fn one_receipt(
+    alloc: Global,
+    batches: u64,
+    workers: u32,
+) -> Result<PipeReceipt, NoMemory>
     requires workers { 1 ≤ workers }
     ensures relation { IfOk result (λ receipt. receipt.relation ≡ 0) }
-    ensures batches { IfOk result (λ receipt. receipt.batches ≡ batch_count rows) }
+    ensures batches { IfOk result (λ receipt. receipt.batches ≡ batches) }
     ensures workers { IfOk result (λ receipt. length receipt.workers.items ≡ workers) }
     ensures balanced { IfOk result (λ receipt. IsBalanced receipt.batches (map lists_of receipt.workers.items) receipt.left.items) }
 {
-    let batches = if rows == 0 { 0 } else { 1 };
     Ok(PipeReceipt {
         relation: 0,
         batches,
@@ -30,7 +32,6 @@ pub(crate) fn one_receipt(alloc: Global, rows: usize, workers: u32) -> Result<Pi
 
 // The first worker did all there was, and the others nothing.
 fn worker_receipts(alloc: Global, batches: u64, workers: u32) -> Result<Vec<Receipt>, NoMemory>
-    requires batches { batches ≤ 1 }
     requires workers { 1 ≤ workers }
     ensures lists { IfOk result (λ receipts. map lists_of receipts.items ≡ workers_alone batches workers) }
     ensures len { IfOk result (λ receipts. length receipts.items ≡ workers) }
@@ -43,15 +44,14 @@ fn worker_receipts(alloc: Global, batches: u64, workers: u32) -> Result<Vec<Rece
     Ok(receipts)
 }
 
-// The one batch was claimed and finished, where there is one.
+// Each batch was claimed and finished, in order.
 fn worked(alloc: Global, batches: u64) -> Result<Receipt, NoMemory>
-    requires { batches ≤ 1 }
     ensures { IfOk result (λ receipt. lists_of receipt ≡ alone batches) }
 {
     let mut receipt = Receipt::new(alloc);
-    if batches == 1 {
-        receipt.claimed.push(0)?;
-        receipt.finished.push(0)?;
+    for number in 0..batches {
+        receipt.claimed.push(number)?;
+        receipt.finished.push(number)?;
     }
     Ok(receipt)
 }

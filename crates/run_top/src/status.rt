@@ -4,6 +4,7 @@ ghost use Rattle.run_top.specs.Lines.{exit_of};
 
 use run_core::Receipt;
 use sub_types::Fault;
+use table_open::FileRule;
 
 /// Why a plan was refused.
 #[derive(Clone, Copy, Debug, PartialEq, Eq, Hash)]
@@ -21,20 +22,6 @@ pub enum Rule {
     BadLiteral,
     BadNames,
     TooMany,
-}
-
-/// Why a file was refused.
-#[derive(Clone, Copy, Debug, PartialEq, Eq, Hash)]
-pub enum FileRule {
-    /// A table of this relation has no binding.
-    Unbound { relation: u32 },
-    Missing,
-    NotArrow,
-    BadFooter { place: u64 },
-    Compressed,
-    Unsupported { column: u32 },
-    NoColumn { relation: u32, column: u32 },
-    WrongType { relation: u32, column: u32 },
 }
 
 /// What the workers did with the batches of one read relation.

@@ -1,5 +1,5 @@
 // The words of a command line, read by position.
-ghost use Rattle.std.specs.Prelude.{◌≡◌, ◌≤◌, ◌↔◌, IsTrue, IfSome};
+ghost use Rattle.std.specs.Prelude.{◌≡◌, ◌≤◌, ◌↔◌, IsTrue, IfSome, length};
 ghost use Rattle.std.specs.List.{list_all};
 ghost use Rattle.std.specs.Option.{option_map};
 ghost use Rattle.run_top.specs.Words.{number_within, IsNumber, are_names, is_binding, are_bindings, reading_of};
@@ -28,6 +28,7 @@ pub(crate) struct Reading<'a> {
 pub(crate) fn read_words<'a>(words: &'a [Word]) -> Option<Reading<'a>>
     ensures reading { option_map reading_seen result ≡ reading_of words.entry.now }
     ensures workers { IfSome result (λ reading. 1 ≤ reading.workers) }
+    ensures few { IfSome result (λ reading. length reading.bindings.now ≤ MAX_BINDINGS) }
 {
     let [command, plan, out, workers, bindings @ ..] = words else {
         return None;
