@@ -1,6 +1,6 @@
 pub mod BitBytes
 pub mod BodyLaws
-pub mod Columns
+pub mod OkLaws
 pub mod CutLaws
 pub mod FileParts
 pub mod KindBuffers
@@ -8,4 +8,3 @@ pub mod MessageLaws
 pub mod Parts
 pub mod Sending
 pub mod TextEnds
-pub mod Whole

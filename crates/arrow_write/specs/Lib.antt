@@ -1,4 +1,3 @@
-pub mod Rows
 pub mod Pieces
 pub mod Stored
 pub mod Bodies

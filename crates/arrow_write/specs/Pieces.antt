@@ -1,4 +1,4 @@
--- The pieces of a file of one required column of 64-bit whole numbers.
+-- The pieces of a file: its end, and what a piece leaves that failed.
 use Rattle.std.specs.Prelude.{◌≡◌, ◌⊎◌, ℕ, List, [], ◌++◌, Option, length, replicate, take}
 use Rattle.byteorder.specs.Endian.{little_bytes}
 use Rattle.arrow_meta.specs.File.{magic}

@@ -12,11 +12,8 @@ mod frame;
 mod message;
 mod next;
 mod packing;
-mod pieces;
 mod put;
-mod rows;
 mod values;
 
 pub use error::WriteError;
 pub use file::write_file;
-pub use rows::write_rows;

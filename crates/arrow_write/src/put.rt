@@ -1,35 +1,14 @@
-// A file written piece by piece.
-ghost use Rattle.std.specs.Prelude.{◌≡◌, ◌++◌, [], OnOk, OnErr};
+// A file that is written piece by piece.
+ghost use Rattle.std.specs.Prelude.{◌≡◌, [], OnOk, OnErr};
 ghost use Rattle.world.specs.Counts.{HasCause};
-ghost use Rattle.world.specs.Files.{written, appended, Has, IsPartWritten};
+ghost use Rattle.world.specs.Files.{written, appended, Has};
 ghost use Rattle.arrow_write.specs.Pieces.{IsPartAppended, IsPartCreated};
 
 use crate::WriteError;
-use crate::pieces::Pieces;
 use std::alloc::Global;
 use world::{Folder, FolderError};
 
-// The file of these pieces, in the place of what is there.
-pub(crate) fn put_pieces<F: Folder>(
-    alloc: Global,
-    folder: &mut F,
-    name: &str,
-    pieces: &Pieces,
-) -> Result<(), WriteError>
-    ensures ok { OnOk result (F.files folder.new
-        ≡ written (F.files folder.old) name.now (pieces.now.head.items ++ pieces.now.message.items ++ pieces.now.tail.items)) }
-    ensures err { OnErr result (IsPartWritten (F.files folder.old) (F.files folder.new) name.now
-        (pieces.now.head.items ++ pieces.now.message.items ++ pieces.now.tail.items)) }
-    ensures cause { HasCause WriteError.WriteFault (F.write_faults folder.old) (F.write_faults folder.new) result }
-    ensures reads { F.reads folder.new ≡ F.reads folder.old }
-    ensures read_faults { F.read_faults folder.new ≡ F.read_faults folder.old }
-{
-    create(alloc, folder, name)?;
-    append(alloc, folder, name, &pieces.head)?;
-    append(alloc, folder, name, &pieces.message)?;
-    append(alloc, folder, name, &pieces.tail)
-}
-
+// The named file, empty.
 pub(crate) fn create<F: Folder>(alloc: Global, folder: &mut F, name: &str) -> Result<(), WriteError>
     ensures ok { OnOk result (F.files folder.new ≡ written (F.files folder.old) name.now []) }
     ensures err { OnErr result (IsPartCreated (F.files folder.old) (F.files folder.new) name.now) }
@@ -44,6 +23,7 @@ pub(crate) fn create<F: Folder>(alloc: Global, folder: &mut F, name: &str) -> Re
     }
 }
 
+// A piece at the end of the named file.
 pub(crate) fn append<F: Folder>(
     alloc: Global,
     folder: &mut F,

@@ -5,7 +5,7 @@ use Rattle.batch.specs.BatchRows.{types_of, rows_of, columns_of}
 use Rattle.batch.specs.Column.{column_type}
 use Rattle.batch.proofs.RowLaws.{length-transpose}
 use Rattle.arrow_write.specs.Progress.{IsMessage}
-use Rattle.arrow_write.proofs.Columns.{if_ok}
+use Rattle.arrow_write.proofs.OkLaws.{if_ok}
 use Rattle.arrow_write.proofs.MessageLaws.{few_nodes, few_places}
 use Rattle.arrow_write.proofs.message.batch_message.Goals as goal
 

@@ -3,7 +3,7 @@ use Rattle.std.specs.List.{flat_map}
 use Rattle.batch.specs.BatchRows.{rows_of, types_of}
 use Rattle.arrow_write.specs.Cut.{IsWhole, AreRows, rows_before, place_of_parts}
 use Rattle.arrow_write.specs.Progress.{IsMessage}
-use Rattle.arrow_write.proofs.Columns.{if_ok}
+use Rattle.arrow_write.proofs.OkLaws.{if_ok}
 use Rattle.arrow_write.proofs.CutLaws.{kinds-of-batches, batch_there, rows-of-whole, place_of_parts-follow}
 use Rattle.arrow_write.proofs.next.next_message.Goals as goal
 

@@ -1,7 +1,7 @@
 use Rattle.std.proofs.Common.{◌≡◌, ◌∙◌, ap}
 use Rattle.sub_types.specs.Bits.{bits_of}
 use Rattle.arrow_meta.specs.Buffers.{packed}
-use Rattle.arrow_write.proofs.Columns.{if_ok}
+use Rattle.arrow_write.proofs.OkLaws.{if_ok}
 use Rattle.arrow_write.proofs.packing.packed_bytes.Goals as goal
 
 pub returns : goal.returns
