@@ -8,25 +8,33 @@ ghost use Rattle.plan_parts.specs.Reader.{reader};
 
 use crate::argument::arguments_at;
 use crate::at::{expr_at, exprs_at, rel_at};
-use plan_items::Items;
+use plan_items::{Items, zip};
 use plan_parts::{common_at, options_at, type_at};
+use plan_raw::{AggregateFunction, Grouping, Measure, RawRel, SortField};
 use plan_scan::{Message, Shape};
-use plan_tree::{AggregateFunction, Grouping, Measure, RawRel, SortField};
 use std::alloc::Global;
 use sub_types::NoMemory;
 
 /// An `AggregateRel`.
 #[cycle(tree)]
-fn aggregate(alloc: Global, message: &Message<'_>) -> Result<RawRel, NoMemory>
+pub(crate) fn aggregate(alloc: Global, message: &Message<'_>) -> Result<RawRel, NoMemory>
     requires { message.now.shape ≡ Shape.AggregateRel }
     ensures { IfOk result (λ rel. rel ≡ aggregate_by (reader message.now.below) (fields_of message.now.bytes)) }
 {
+    let lists = zip(
+        groupings_at(alloc, message, 3),
+        measures_at(alloc, message, 4),
+    );
+    let ((common, input), ((groupings, measures), grouping_expressions)) = zip(
+        zip(common_at(alloc, message), rel_at(alloc, message, 2)),
+        zip(lists, exprs_at(alloc, message, 5)),
+    )?;
     Ok(RawRel::Aggregate {
-        common: common_at(alloc, message)?,
-        input: rel_at(alloc, message, 2)?,
-        groupings: groupings_at(alloc, message, 3)?,
-        measures: measures_at(alloc, message, 4)?,
-        grouping_expressions: exprs_at(alloc, message, 5)?,
+        common,
+        input,
+        groupings,
+        measures,
+        grouping_expressions,
     })
 }
 
@@ -52,9 +60,10 @@ fn grouping(alloc: Global, message: &Message<'_>) -> Result<Grouping, NoMemory>
     requires { message.now.shape ≡ Shape.Grouping }
     ensures { IfOk result (λ grouping. grouping ≡ grouping_by (reader message.now.below) (fields_of message.now.bytes)) }
 {
+    let (exprs, references) = zip(exprs_at(alloc, message, 1), message.uint32s(alloc, 2))?;
     Ok(Grouping {
-        grouping_expressions: exprs_at(alloc, message, 1)?,
-        expression_references: Items::from_vec(message.uint32s(alloc, 2)?),
+        grouping_expressions: exprs,
+        expression_references: Items::from_vec(references),
     })
 }
 
@@ -80,9 +89,10 @@ fn measure(alloc: Global, message: &Message<'_>) -> Result<Measure, NoMemory>
     requires { message.now.shape ≡ Shape.Measure }
     ensures { IfOk result (λ measure. measure ≡ measure_by (reader message.now.below) (fields_of message.now.bytes)) }
 {
+    let (function, filter) = zip(function_at(alloc, message, 1), expr_at(alloc, message, 2))?;
     Ok(Measure {
-        measure: function_at(alloc, message, 1)?,
-        filter: expr_at(alloc, message, 2)?,
+        measure: function,
+        filter,
     })
 }
 
@@ -106,14 +116,25 @@ fn aggregate_function(alloc: Global, message: &Message<'_>) -> Result<AggregateF
     requires { message.now.shape ≡ Shape.AggregateFunction }
     ensures { IfOk result (λ function. function ≡ aggregate_function_by (reader message.now.below) (fields_of message.now.bytes)) }
 {
+    let called = zip(
+        arguments_at(alloc, message, 7),
+        options_at(alloc, message, 8),
+    );
+    let ((sorts, output_type), (arguments, options)) = zip(
+        zip(
+            sort_fields_at(alloc, message, 3),
+            type_at(alloc, message, 5),
+        ),
+        called,
+    )?;
     Ok(AggregateFunction {
         function_reference: message.uint32(1),
-        sorts: sort_fields_at(alloc, message, 3)?,
+        sorts,
         phase: message.uint32(4),
-        output_type: type_at(alloc, message, 5)?,
+        output_type,
         invocation: message.uint32(6),
-        arguments: arguments_at(alloc, message, 7)?,
-        options: options_at(alloc, message, 8)?,
+        arguments,
+        options,
     })
 }
 
@@ -144,19 +165,4 @@ fn sort_field(alloc: Global, message: &Message<'_>) -> Result<SortField, NoMemor
         expr: expr_at(alloc, message, 1)?,
         direction: message.uint32(2),
     })
-}
-
-#[cycle(tree)]
-pub(crate) fn aggregate_at(
-    alloc: Global,
-    message: &Message<'_>,
-    number: u32,
-) -> Result<Option<RawRel>, NoMemory>
-    requires { HoldsMessage message.now.shape number Shape.AggregateRel }
-    ensures { IfOk result (λ rel. rel ≡ child (reader message.now.below) Shape.AggregateRel number (fields_of message.now.bytes)) }
-{
-    match message.message(alloc, number, Shape::AggregateRel)? {
-        None => Ok(None),
-        Some(found) => Ok(Some(aggregate(alloc, &found)?)),
-    }
 }

@@ -9,8 +9,8 @@ ghost use Rattle.plan_parts.specs.Reader.{reader};
 use crate::at::expr_at;
 use plan_items::Items;
 use plan_parts::type_at;
+use plan_raw::FunctionArgument;
 use plan_scan::{Message, OneOf, Shape};
-use plan_tree::FunctionArgument;
 use std::alloc::Global;
 use sub_types::NoMemory;
 

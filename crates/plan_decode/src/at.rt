@@ -8,8 +8,8 @@ ghost use Rattle.plan_parts.specs.Reader.{reader};
 use crate::expr::expression;
 use crate::rel::relation;
 use plan_items::{Boxed, Items};
+use plan_raw::{RawExpr, RawRel};
 use plan_scan::{Message, Shape};
-use plan_tree::{RawExpr, RawRel};
 use std::alloc::Global;
 use sub_types::NoMemory;
 

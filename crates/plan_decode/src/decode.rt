@@ -4,8 +4,8 @@ ghost use Rattle.plan_scan.specs.declared.flaw.Flaw.TheVariants as flaws;
 ghost use Rattle.plan_parts.specs.Reader.{plan_of};
 
 use crate::root::plan;
+use plan_raw::PlanTree;
 use plan_scan::{Flaw, Message};
-use plan_tree::PlanTree;
 use std::alloc::Global;
 use std::error::Error;
 use std::fmt;

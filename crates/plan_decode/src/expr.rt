@@ -2,17 +2,17 @@
 ghost use Rattle.std.specs.Prelude.{◌≡◌, IfOk};
 ghost use Rattle.pb_wire.specs.Payloads.{fields_of};
 ghost use Rattle.plan_scan.specs.Table.{HoldsMessage};
-ghost use Rattle.plan_parts.specs.Shapes.{child, children};
+ghost use Rattle.plan_parts.specs.Shapes.{children};
 ghost use Rattle.plan_parts.specs.Exprs as exprs;
 ghost use Rattle.plan_parts.specs.Reader.{reader};
 
 use crate::argument::arguments_at;
 use crate::at::{boxed_expr_at, expr_at, exprs_at};
-use crate::subquery::subquery_at;
-use plan_items::Items;
+use crate::subquery::subquery;
+use plan_items::{Items, zip};
 use plan_parts::{literal_at, options_at, selection, type_at};
+use plan_raw::{IfClause, IfValue, RawExpr};
 use plan_scan::{Message, OneOf, Shape};
-use plan_tree::{IfClause, IfValue, RawExpr};
 use std::alloc::Global;
 use sub_types::NoMemory;
 
@@ -42,29 +42,29 @@ fn member(alloc: Global, number: u32, won: &Message<'_>) -> Result<RawExpr, NoMe
             None => Ok(RawExpr::Missing),
             Some(found) => selection(alloc, &found),
         },
-        3 => match scalar_function_at(alloc, won, 3)? {
+        3 => match won.message(alloc, 3, Shape::ScalarFunction)? {
             None => Ok(RawExpr::Missing),
-            Some(found) => Ok(found),
+            Some(found) => scalar_function(alloc, &found),
         },
-        6 => match if_then_at(alloc, won, 6)? {
+        6 => match won.message(alloc, 6, Shape::IfThen)? {
             None => Ok(RawExpr::Missing),
-            Some(found) => Ok(found),
+            Some(found) => if_then(alloc, &found),
         },
-        7 => match switch_at(alloc, won, 7)? {
+        7 => match won.message(alloc, 7, Shape::SwitchExpression)? {
             None => Ok(RawExpr::Missing),
-            Some(found) => Ok(found),
+            Some(found) => switch(alloc, &found),
         },
-        8 => match singular_or_list_at(alloc, won, 8)? {
+        8 => match won.message(alloc, 8, Shape::SingularOrList)? {
             None => Ok(RawExpr::Missing),
-            Some(found) => Ok(found),
+            Some(found) => singular_or_list(alloc, &found),
         },
-        11 => match cast_at(alloc, won, 11)? {
+        11 => match won.message(alloc, 11, Shape::Cast)? {
             None => Ok(RawExpr::Missing),
-            Some(found) => Ok(found),
+            Some(found) => cast(alloc, &found),
         },
-        12 => match subquery_at(alloc, won, 12)? {
+        12 => match won.message(alloc, 12, Shape::Subquery)? {
             None => Ok(RawExpr::Missing),
-            Some(found) => Ok(found),
+            Some(found) => subquery(alloc, &found),
         },
         _ => Ok(RawExpr::Unknown { number }),
     }
@@ -75,11 +75,18 @@ fn scalar_function(alloc: Global, message: &Message<'_>) -> Result<RawExpr, NoMe
     requires { message.now.shape ≡ Shape.ScalarFunction }
     ensures { IfOk result (λ expr. expr ≡ exprs.scalar_function_by (reader message.now.below) (fields_of message.now.bytes)) }
 {
+    let (output_type, (arguments, options)) = zip(
+        type_at(alloc, message, 3),
+        zip(
+            arguments_at(alloc, message, 4),
+            options_at(alloc, message, 5),
+        ),
+    )?;
     Ok(RawExpr::ScalarFunction {
         function_reference: message.uint32(1),
-        output_type: type_at(alloc, message, 3)?,
-        arguments: arguments_at(alloc, message, 4)?,
-        options: options_at(alloc, message, 5)?,
+        output_type,
+        arguments,
+        options,
     })
 }
 
@@ -88,10 +95,11 @@ fn if_then(alloc: Global, message: &Message<'_>) -> Result<RawExpr, NoMemory>
     requires { message.now.shape ≡ Shape.IfThen }
     ensures { IfOk result (λ expr. expr ≡ exprs.if_then_by (reader message.now.below) (fields_of message.now.bytes)) }
 {
-    Ok(RawExpr::IfThen {
-        ifs: if_clauses_at(alloc, message, 1)?,
-        else_: boxed_expr_at(alloc, message, 2)?,
-    })
+    let (ifs, else_) = zip(
+        if_clauses_at(alloc, message, 1),
+        boxed_expr_at(alloc, message, 2),
+    )?;
+    Ok(RawExpr::IfThen { ifs, else_ })
 }
 
 #[cycle(tree)]
@@ -116,10 +124,8 @@ fn if_clause(alloc: Global, message: &Message<'_>) -> Result<IfClause, NoMemory>
     requires { message.now.shape ≡ Shape.IfClause }
     ensures { IfOk result (λ clause. clause ≡ exprs.if_clause_by (reader message.now.below) (fields_of message.now.bytes)) }
 {
-    Ok(IfClause {
-        if_: expr_at(alloc, message, 1)?,
-        then: expr_at(alloc, message, 2)?,
-    })
+    let (if_, then) = zip(expr_at(alloc, message, 1), expr_at(alloc, message, 2))?;
+    Ok(IfClause { if_, then })
 }
 
 #[cycle(tree)]
@@ -127,11 +133,14 @@ fn switch(alloc: Global, message: &Message<'_>) -> Result<RawExpr, NoMemory>
     requires { message.now.shape ≡ Shape.SwitchExpression }
     ensures { IfOk result (λ expr. expr ≡ exprs.switch_by (reader message.now.below) (fields_of message.now.bytes)) }
 {
-    Ok(RawExpr::SwitchExpression {
-        ifs: if_values_at(alloc, message, 1)?,
-        else_: boxed_expr_at(alloc, message, 2)?,
-        match_: boxed_expr_at(alloc, message, 3)?,
-    })
+    let (ifs, (else_, match_)) = zip(
+        if_values_at(alloc, message, 1),
+        zip(
+            boxed_expr_at(alloc, message, 2),
+            boxed_expr_at(alloc, message, 3),
+        ),
+    )?;
+    Ok(RawExpr::SwitchExpression { ifs, else_, match_ })
 }
 
 #[cycle(tree)]
@@ -156,10 +165,8 @@ fn if_value(alloc: Global, message: &Message<'_>) -> Result<IfValue, NoMemory>
     requires { message.now.shape ≡ Shape.IfValue }
     ensures { IfOk result (λ value. value ≡ exprs.if_value_by (reader message.now.below) (fields_of message.now.bytes)) }
 {
-    Ok(IfValue {
-        if_: literal_at(alloc, message, 1)?,
-        then: expr_at(alloc, message, 2)?,
-    })
+    let (if_, then) = zip(literal_at(alloc, message, 1), expr_at(alloc, message, 2))?;
+    Ok(IfValue { if_, then })
 }
 
 #[cycle(tree)]
@@ -167,10 +174,11 @@ fn singular_or_list(alloc: Global, message: &Message<'_>) -> Result<RawExpr, NoM
     requires { message.now.shape ≡ Shape.SingularOrList }
     ensures { IfOk result (λ expr. expr ≡ exprs.singular_or_list_by (reader message.now.below) (fields_of message.now.bytes)) }
 {
-    Ok(RawExpr::SingularOrList {
-        value: boxed_expr_at(alloc, message, 1)?,
-        options: exprs_at(alloc, message, 2)?,
-    })
+    let (value, options) = zip(
+        boxed_expr_at(alloc, message, 1),
+        exprs_at(alloc, message, 2),
+    )?;
+    Ok(RawExpr::SingularOrList { value, options })
 }
 
 #[cycle(tree)]
@@ -178,76 +186,10 @@ fn cast(alloc: Global, message: &Message<'_>) -> Result<RawExpr, NoMemory>
     requires { message.now.shape ≡ Shape.Cast }
     ensures { IfOk result (λ expr. expr ≡ exprs.cast_by (reader message.now.below) (fields_of message.now.bytes)) }
 {
+    let (type_, input) = zip(type_at(alloc, message, 1), boxed_expr_at(alloc, message, 2))?;
     Ok(RawExpr::Cast {
-        type_: type_at(alloc, message, 1)?,
-        input: boxed_expr_at(alloc, message, 2)?,
+        type_,
+        input,
         failure_behavior: message.uint32(3),
     })
-}
-
-#[cycle(tree)]
-fn scalar_function_at(
-    alloc: Global,
-    message: &Message<'_>,
-    number: u32,
-) -> Result<Option<RawExpr>, NoMemory>
-    requires { HoldsMessage message.now.shape number Shape.ScalarFunction }
-    ensures { IfOk result (λ expr. expr ≡ child (reader message.now.below) Shape.ScalarFunction number (fields_of message.now.bytes)) }
-{
-    match message.message(alloc, number, Shape::ScalarFunction)? {
-        None => Ok(None),
-        Some(found) => Ok(Some(scalar_function(alloc, &found)?)),
-    }
-}
-
-#[cycle(tree)]
-fn if_then_at(
-    alloc: Global,
-    message: &Message<'_>,
-    number: u32,
-) -> Result<Option<RawExpr>, NoMemory>
-    requires { HoldsMessage message.now.shape number Shape.IfThen }
-    ensures { IfOk result (λ expr. expr ≡ child (reader message.now.below) Shape.IfThen number (fields_of message.now.bytes)) }
-{
-    match message.message(alloc, number, Shape::IfThen)? {
-        None => Ok(None),
-        Some(found) => Ok(Some(if_then(alloc, &found)?)),
-    }
-}
-
-#[cycle(tree)]
-fn switch_at(alloc: Global, message: &Message<'_>, number: u32) -> Result<Option<RawExpr>, NoMemory>
-    requires { HoldsMessage message.now.shape number Shape.SwitchExpression }
-    ensures { IfOk result (λ expr. expr ≡ child (reader message.now.below) Shape.SwitchExpression number (fields_of message.now.bytes)) }
-{
-    match message.message(alloc, number, Shape::SwitchExpression)? {
-        None => Ok(None),
-        Some(found) => Ok(Some(switch(alloc, &found)?)),
-    }
-}
-
-#[cycle(tree)]
-fn singular_or_list_at(
-    alloc: Global,
-    message: &Message<'_>,
-    number: u32,
-) -> Result<Option<RawExpr>, NoMemory>
-    requires { HoldsMessage message.now.shape number Shape.SingularOrList }
-    ensures { IfOk result (λ expr. expr ≡ child (reader message.now.below) Shape.SingularOrList number (fields_of message.now.bytes)) }
-{
-    match message.message(alloc, number, Shape::SingularOrList)? {
-        None => Ok(None),
-        Some(found) => Ok(Some(singular_or_list(alloc, &found)?)),
-    }
-}
-
-#[cycle(tree)]
-fn cast_at(alloc: Global, message: &Message<'_>, number: u32) -> Result<Option<RawExpr>, NoMemory>
-    requires { HoldsMessage message.now.shape number Shape.Cast }
-    ensures { IfOk result (λ expr. expr ≡ child (reader message.now.below) Shape.Cast number (fields_of message.now.bytes)) }
-{
-    match message.message(alloc, number, Shape::Cast)? {
-        None => Ok(None),
-        Some(found) => Ok(Some(cast(alloc, &found)?)),
-    }
 }

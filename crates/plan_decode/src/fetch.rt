@@ -1,29 +1,32 @@
 // Fetch relations (Substrait `FetchRel`).
 ghost use Rattle.std.specs.Prelude.{◌≡◌, IfOk};
 ghost use Rattle.pb_wire.specs.Payloads.{fields_of};
-ghost use Rattle.plan_scan.specs.Table.{HoldsMessage};
-ghost use Rattle.plan_parts.specs.Shapes.{child};
 ghost use Rattle.plan_parts.specs.Rels.{fetch_by, offset_by, offset_member, count_by, count_member};
 ghost use Rattle.plan_parts.specs.Reader.{reader};
 
 use crate::at::{boxed_expr_at, rel_at};
+use plan_items::zip;
 use plan_parts::common_at;
+use plan_raw::{RawCount, RawOffset, RawRel};
 use plan_scan::{Message, OneOf, Shape};
-use plan_tree::{RawCount, RawOffset, RawRel};
 use std::alloc::Global;
 use sub_types::NoMemory;
 
 /// A `FetchRel`.
 #[cycle(tree)]
-fn fetch(alloc: Global, message: &Message<'_>) -> Result<RawRel, NoMemory>
+pub(crate) fn fetch(alloc: Global, message: &Message<'_>) -> Result<RawRel, NoMemory>
     requires { message.now.shape ≡ Shape.FetchRel }
     ensures { IfOk result (λ rel. rel ≡ fetch_by (reader message.now.below) (fields_of message.now.bytes)) }
 {
+    let ((common, input), (offset, count)) = zip(
+        zip(common_at(alloc, message), rel_at(alloc, message, 2)),
+        zip(offset(alloc, message), count(alloc, message)),
+    )?;
     Ok(RawRel::Fetch {
-        common: common_at(alloc, message)?,
-        input: rel_at(alloc, message, 2)?,
-        offset: offset(alloc, message)?,
-        count: count(alloc, message)?,
+        common,
+        input,
+        offset,
+        count,
     })
 }
 
@@ -74,20 +77,5 @@ fn count_in(alloc: Global, number: u32, won: &Message<'_>) -> Result<RawCount, N
     match boxed_expr_at(alloc, won, 6)? {
         None => Ok(RawCount::Missing),
         Some(expr) => Ok(RawCount::CountExpr(expr)),
-    }
-}
-
-#[cycle(tree)]
-pub(crate) fn fetch_at(
-    alloc: Global,
-    message: &Message<'_>,
-    number: u32,
-) -> Result<Option<RawRel>, NoMemory>
-    requires { HoldsMessage message.now.shape number Shape.FetchRel }
-    ensures { IfOk result (λ rel. rel ≡ child (reader message.now.below) Shape.FetchRel number (fields_of message.now.bytes)) }
-{
-    match message.message(alloc, number, Shape::FetchRel)? {
-        None => Ok(None),
-        Some(found) => Ok(Some(fetch(alloc, &found)?)),
     }
 }

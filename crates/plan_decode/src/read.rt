@@ -2,31 +2,45 @@
 ghost use Rattle.std.specs.Prelude.{◌≡◌, IfOk};
 ghost use Rattle.pb_wire.specs.Payloads.{fields_of};
 ghost use Rattle.plan_scan.specs.Table.{HoldsMessage};
-ghost use Rattle.plan_parts.specs.Shapes.{child, children};
+ghost use Rattle.plan_parts.specs.Shapes.{children};
 ghost use Rattle.plan_parts.specs.Rels.{expression_row_by, virtual_table_by, source_by, source_member, read_by};
 ghost use Rattle.plan_parts.specs.Reader.{reader};
 
 use crate::at::{boxed_expr_at, exprs_at};
-use plan_items::Items;
+use plan_items::{Items, zip};
 use plan_parts::{common_at, literal_rows_at, local_files, mask_at, named_struct_at, named_table};
+use plan_raw::{ExprRow, RawRel, RawSource, VirtualTable};
 use plan_scan::{Message, OneOf, Shape};
-use plan_tree::{ExprRow, RawRel, RawSource, VirtualTable};
 use std::alloc::Global;
 use sub_types::NoMemory;
 
 /// A `ReadRel`.
 #[cycle(tree)]
-fn read(alloc: Global, message: &Message<'_>) -> Result<RawRel, NoMemory>
+pub(crate) fn read(alloc: Global, message: &Message<'_>) -> Result<RawRel, NoMemory>
     requires { message.now.shape ≡ Shape.ReadRel }
     ensures { IfOk result (λ rel. rel ≡ read_by (reader message.now.below) (fields_of message.now.bytes)) }
 {
+    let filters = zip(
+        boxed_expr_at(alloc, message, 3),
+        boxed_expr_at(alloc, message, 11),
+    );
+    let columns = zip(
+        named_struct_at(alloc, message, 2),
+        mask_at(alloc, message, 4),
+    );
+    let ((common, source), (columns, filters)) = zip(
+        zip(common_at(alloc, message), source(alloc, message)),
+        zip(columns, filters),
+    )?;
+    let (base_schema, projection) = columns;
+    let (filter, best_effort_filter) = filters;
     Ok(RawRel::Read {
-        common: common_at(alloc, message)?,
-        base_schema: named_struct_at(alloc, message, 2)?,
-        filter: boxed_expr_at(alloc, message, 3)?,
-        projection: mask_at(alloc, message, 4)?,
-        source: source(alloc, message)?,
-        best_effort_filter: boxed_expr_at(alloc, message, 11)?,
+        common,
+        base_schema,
+        filter,
+        projection,
+        source,
+        best_effort_filter,
     })
 }
 
@@ -47,9 +61,9 @@ fn source_in(alloc: Global, number: u32, won: &Message<'_>) -> Result<RawSource,
     ensures { IfOk result (λ source. source ≡ source_member (reader won.now.below) number (fields_of won.now.bytes)) }
 {
     match number {
-        5 => match virtual_table_at(alloc, won, 5)? {
+        5 => match won.message(alloc, 5, Shape::VirtualTable)? {
             None => Ok(RawSource::Missing),
-            Some(found) => Ok(RawSource::VirtualTable(found)),
+            Some(found) => Ok(RawSource::VirtualTable(virtual_table(alloc, &found)?)),
         },
         6 => match won.message(alloc, 6, Shape::LocalFiles)? {
             None => Ok(RawSource::Missing),
@@ -67,9 +81,13 @@ fn virtual_table(alloc: Global, message: &Message<'_>) -> Result<VirtualTable, N
     requires { message.now.shape ≡ Shape.VirtualTable }
     ensures { IfOk result (λ table. table ≡ virtual_table_by (reader message.now.below) (fields_of message.now.bytes)) }
 {
+    let (values, expressions) = zip(
+        literal_rows_at(alloc, message, 1),
+        rows_at(alloc, message, 2),
+    )?;
     Ok(VirtualTable {
-        values: literal_rows_at(alloc, message, 1)?,
-        expressions: rows_at(alloc, message, 2)?,
+        values,
+        expressions,
     })
 }
 
@@ -94,34 +112,4 @@ fn row(alloc: Global, message: &Message<'_>) -> Result<ExprRow, NoMemory>
     Ok(ExprRow {
         fields: exprs_at(alloc, message, 1)?,
     })
-}
-
-#[cycle(tree)]
-pub(crate) fn read_at(
-    alloc: Global,
-    message: &Message<'_>,
-    number: u32,
-) -> Result<Option<RawRel>, NoMemory>
-    requires { HoldsMessage message.now.shape number Shape.ReadRel }
-    ensures { IfOk result (λ rel. rel ≡ child (reader message.now.below) Shape.ReadRel number (fields_of message.now.bytes)) }
-{
-    match message.message(alloc, number, Shape::ReadRel)? {
-        None => Ok(None),
-        Some(found) => Ok(Some(read(alloc, &found)?)),
-    }
-}
-
-#[cycle(tree)]
-fn virtual_table_at(
-    alloc: Global,
-    message: &Message<'_>,
-    number: u32,
-) -> Result<Option<VirtualTable>, NoMemory>
-    requires { HoldsMessage message.now.shape number Shape.VirtualTable }
-    ensures { IfOk result (λ table. table ≡ child (reader message.now.below) Shape.VirtualTable number (fields_of message.now.bytes)) }
-{
-    match message.message(alloc, number, Shape::VirtualTable)? {
-        None => Ok(None),
-        Some(found) => Ok(Some(virtual_table(alloc, &found)?)),
-    }
 }

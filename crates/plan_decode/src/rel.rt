@@ -1,18 +1,17 @@
 // Relations (Substrait `Rel`).
 ghost use Rattle.std.specs.Prelude.{◌≡◌, IfOk};
 ghost use Rattle.pb_wire.specs.Payloads.{fields_of};
-ghost use Rattle.plan_scan.specs.Table.{HoldsMessage};
-ghost use Rattle.plan_parts.specs.Shapes.{child};
 ghost use Rattle.plan_parts.specs.Rels as rels;
 ghost use Rattle.plan_parts.specs.Reader.{reader};
 
-use crate::aggregate::{aggregate_at, sort_fields_at};
+use crate::aggregate::{aggregate, sort_fields_at};
 use crate::at::{boxed_expr_at, exprs_at, rel_at, rels_at};
-use crate::fetch::fetch_at;
-use crate::read::read_at;
+use crate::fetch::fetch;
+use crate::read::read;
+use plan_items::zip;
 use plan_parts::common_at;
+use plan_raw::RawRel;
 use plan_scan::{Message, OneOf, Shape};
-use plan_tree::RawRel;
 use std::alloc::Global;
 use sub_types::NoMemory;
 
@@ -34,41 +33,41 @@ fn member(alloc: Global, number: u32, won: &Message<'_>) -> Result<RawRel, NoMem
     ensures { IfOk result (λ rel. rel ≡ rels.rel_member (reader won.now.below) number (fields_of won.now.bytes)) }
 {
     match number {
-        1 => match read_at(alloc, won, 1)? {
+        1 => match won.message(alloc, 1, Shape::ReadRel)? {
             None => Ok(RawRel::Missing),
-            Some(found) => Ok(found),
+            Some(found) => read(alloc, &found),
         },
-        2 => match filter_at(alloc, won, 2)? {
+        2 => match won.message(alloc, 2, Shape::FilterRel)? {
             None => Ok(RawRel::Missing),
-            Some(found) => Ok(found),
+            Some(found) => filter(alloc, &found),
         },
-        3 => match fetch_at(alloc, won, 3)? {
+        3 => match won.message(alloc, 3, Shape::FetchRel)? {
             None => Ok(RawRel::Missing),
-            Some(found) => Ok(found),
+            Some(found) => fetch(alloc, &found),
         },
-        4 => match aggregate_at(alloc, won, 4)? {
+        4 => match won.message(alloc, 4, Shape::AggregateRel)? {
             None => Ok(RawRel::Missing),
-            Some(found) => Ok(found),
+            Some(found) => aggregate(alloc, &found),
         },
-        5 => match sort_at(alloc, won, 5)? {
+        5 => match won.message(alloc, 5, Shape::SortRel)? {
             None => Ok(RawRel::Missing),
-            Some(found) => Ok(found),
+            Some(found) => sort(alloc, &found),
         },
-        6 => match join_at(alloc, won, 6)? {
+        6 => match won.message(alloc, 6, Shape::JoinRel)? {
             None => Ok(RawRel::Missing),
-            Some(found) => Ok(found),
+            Some(found) => join(alloc, &found),
         },
-        7 => match project_at(alloc, won, 7)? {
+        7 => match won.message(alloc, 7, Shape::ProjectRel)? {
             None => Ok(RawRel::Missing),
-            Some(found) => Ok(found),
+            Some(found) => project(alloc, &found),
         },
-        8 => match set_at(alloc, won, 8)? {
+        8 => match won.message(alloc, 8, Shape::SetRel)? {
             None => Ok(RawRel::Missing),
-            Some(found) => Ok(found),
+            Some(found) => set(alloc, &found),
         },
-        12 => match cross_at(alloc, won, 12)? {
+        12 => match won.message(alloc, 12, Shape::CrossRel)? {
             None => Ok(RawRel::Missing),
-            Some(found) => Ok(found),
+            Some(found) => cross(alloc, &found),
         },
         _ => Ok(RawRel::Unknown { number }),
     }
@@ -79,10 +78,14 @@ fn filter(alloc: Global, message: &Message<'_>) -> Result<RawRel, NoMemory>
     requires { message.now.shape ≡ Shape.FilterRel }
     ensures { IfOk result (λ rel. rel ≡ rels.filter_by (reader message.now.below) (fields_of message.now.bytes)) }
 {
+    let (common, (input, condition)) = zip(
+        common_at(alloc, message),
+        zip(rel_at(alloc, message, 2), boxed_expr_at(alloc, message, 3)),
+    )?;
     Ok(RawRel::Filter {
-        common: common_at(alloc, message)?,
-        input: rel_at(alloc, message, 2)?,
-        condition: boxed_expr_at(alloc, message, 3)?,
+        common,
+        input,
+        condition,
     })
 }
 
@@ -91,10 +94,14 @@ fn sort(alloc: Global, message: &Message<'_>) -> Result<RawRel, NoMemory>
     requires { message.now.shape ≡ Shape.SortRel }
     ensures { IfOk result (λ rel. rel ≡ rels.sort_by (reader message.now.below) (fields_of message.now.bytes)) }
 {
+    let (common, (input, sorts)) = zip(
+        common_at(alloc, message),
+        zip(rel_at(alloc, message, 2), sort_fields_at(alloc, message, 3)),
+    )?;
     Ok(RawRel::Sort {
-        common: common_at(alloc, message)?,
-        input: rel_at(alloc, message, 2)?,
-        sorts: sort_fields_at(alloc, message, 3)?,
+        common,
+        input,
+        sorts,
     })
 }
 
@@ -103,12 +110,21 @@ fn join(alloc: Global, message: &Message<'_>) -> Result<RawRel, NoMemory>
     requires { message.now.shape ≡ Shape.JoinRel }
     ensures { IfOk result (λ rel. rel ≡ rels.join_by (reader message.now.below) (fields_of message.now.bytes)) }
 {
+    let inputs = zip(rel_at(alloc, message, 2), rel_at(alloc, message, 3));
+    let filters = zip(
+        boxed_expr_at(alloc, message, 4),
+        boxed_expr_at(alloc, message, 5),
+    );
+    let (common, ((left, right), (expression, post_join_filter))) = zip(
+        common_at(alloc, message),
+        zip(inputs, filters),
+    )?;
     Ok(RawRel::Join {
-        common: common_at(alloc, message)?,
-        left: rel_at(alloc, message, 2)?,
-        right: rel_at(alloc, message, 3)?,
-        expression: boxed_expr_at(alloc, message, 4)?,
-        post_join_filter: boxed_expr_at(alloc, message, 5)?,
+        common,
+        left,
+        right,
+        expression,
+        post_join_filter,
         type_: message.uint32(6),
     })
 }
@@ -118,10 +134,14 @@ fn project(alloc: Global, message: &Message<'_>) -> Result<RawRel, NoMemory>
     requires { message.now.shape ≡ Shape.ProjectRel }
     ensures { IfOk result (λ rel. rel ≡ rels.project_by (reader message.now.below) (fields_of message.now.bytes)) }
 {
+    let (common, (input, expressions)) = zip(
+        common_at(alloc, message),
+        zip(rel_at(alloc, message, 2), exprs_at(alloc, message, 3)),
+    )?;
     Ok(RawRel::Project {
-        common: common_at(alloc, message)?,
-        input: rel_at(alloc, message, 2)?,
-        expressions: exprs_at(alloc, message, 3)?,
+        common,
+        input,
+        expressions,
     })
 }
 
@@ -130,9 +150,10 @@ fn set(alloc: Global, message: &Message<'_>) -> Result<RawRel, NoMemory>
     requires { message.now.shape ≡ Shape.SetRel }
     ensures { IfOk result (λ rel. rel ≡ rels.set_by (reader message.now.below) (fields_of message.now.bytes)) }
 {
+    let (common, inputs) = zip(common_at(alloc, message), rels_at(alloc, message, 2))?;
     Ok(RawRel::Set {
-        common: common_at(alloc, message)?,
-        inputs: rels_at(alloc, message, 2)?,
+        common,
+        inputs,
         op: message.uint32(3),
     })
 }
@@ -142,75 +163,13 @@ fn cross(alloc: Global, message: &Message<'_>) -> Result<RawRel, NoMemory>
     requires { message.now.shape ≡ Shape.CrossRel }
     ensures { IfOk result (λ rel. rel ≡ rels.cross_by (reader message.now.below) (fields_of message.now.bytes)) }
 {
+    let (common, (left, right)) = zip(
+        common_at(alloc, message),
+        zip(rel_at(alloc, message, 2), rel_at(alloc, message, 3)),
+    )?;
     Ok(RawRel::Cross {
-        common: common_at(alloc, message)?,
-        left: rel_at(alloc, message, 2)?,
-        right: rel_at(alloc, message, 3)?,
+        common,
+        left,
+        right,
     })
-}
-
-#[cycle(tree)]
-fn filter_at(alloc: Global, message: &Message<'_>, number: u32) -> Result<Option<RawRel>, NoMemory>
-    requires { HoldsMessage message.now.shape number Shape.FilterRel }
-    ensures { IfOk result (λ rel. rel ≡ child (reader message.now.below) Shape.FilterRel number (fields_of message.now.bytes)) }
-{
-    match message.message(alloc, number, Shape::FilterRel)? {
-        None => Ok(None),
-        Some(found) => Ok(Some(filter(alloc, &found)?)),
-    }
-}
-
-#[cycle(tree)]
-fn sort_at(alloc: Global, message: &Message<'_>, number: u32) -> Result<Option<RawRel>, NoMemory>
-    requires { HoldsMessage message.now.shape number Shape.SortRel }
-    ensures { IfOk result (λ rel. rel ≡ child (reader message.now.below) Shape.SortRel number (fields_of message.now.bytes)) }
-{
-    match message.message(alloc, number, Shape::SortRel)? {
-        None => Ok(None),
-        Some(found) => Ok(Some(sort(alloc, &found)?)),
-    }
-}
-
-#[cycle(tree)]
-fn join_at(alloc: Global, message: &Message<'_>, number: u32) -> Result<Option<RawRel>, NoMemory>
-    requires { HoldsMessage message.now.shape number Shape.JoinRel }
-    ensures { IfOk result (λ rel. rel ≡ child (reader message.now.below) Shape.JoinRel number (fields_of message.now.bytes)) }
-{
-    match message.message(alloc, number, Shape::JoinRel)? {
-        None => Ok(None),
-        Some(found) => Ok(Some(join(alloc, &found)?)),
-    }
-}
-
-#[cycle(tree)]
-fn project_at(alloc: Global, message: &Message<'_>, number: u32) -> Result<Option<RawRel>, NoMemory>
-    requires { HoldsMessage message.now.shape number Shape.ProjectRel }
-    ensures { IfOk result (λ rel. rel ≡ child (reader message.now.below) Shape.ProjectRel number (fields_of message.now.bytes)) }
-{
-    match message.message(alloc, number, Shape::ProjectRel)? {
-        None => Ok(None),
-        Some(found) => Ok(Some(project(alloc, &found)?)),
-    }
-}
-
-#[cycle(tree)]
-fn set_at(alloc: Global, message: &Message<'_>, number: u32) -> Result<Option<RawRel>, NoMemory>
-    requires { HoldsMessage message.now.shape number Shape.SetRel }
-    ensures { IfOk result (λ rel. rel ≡ child (reader message.now.below) Shape.SetRel number (fields_of message.now.bytes)) }
-{
-    match message.message(alloc, number, Shape::SetRel)? {
-        None => Ok(None),
-        Some(found) => Ok(Some(set(alloc, &found)?)),
-    }
-}
-
-#[cycle(tree)]
-fn cross_at(alloc: Global, message: &Message<'_>, number: u32) -> Result<Option<RawRel>, NoMemory>
-    requires { HoldsMessage message.now.shape number Shape.CrossRel }
-    ensures { IfOk result (λ rel. rel ≡ child (reader message.now.below) Shape.CrossRel number (fields_of message.now.bytes)) }
-{
-    match message.message(alloc, number, Shape::CrossRel)? {
-        None => Ok(None),
-        Some(found) => Ok(Some(cross(alloc, &found)?)),
-    }
 }

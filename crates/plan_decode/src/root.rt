@@ -6,10 +6,10 @@ ghost use Rattle.plan_parts.specs.Rels as rels;
 ghost use Rattle.plan_parts.specs.Reader.{reader};
 
 use crate::at::rel_at;
-use plan_items::Items;
+use plan_items::{Items, zip};
 use plan_parts::{functions_at, uris_at};
+use plan_raw::{PlanTree, RootDecl};
 use plan_scan::{Message, OneOf, Shape};
-use plan_tree::{PlanTree, RootDecl};
 use std::alloc::Global;
 use sub_types::NoMemory;
 
@@ -85,9 +85,10 @@ fn rel_root(alloc: Global, message: &Message<'_>) -> Result<RootDecl, NoMemory>
     requires { message.now.shape ≡ Shape.RelRoot }
     ensures { IfOk result (λ root. root ≡ rels.root_by (reader message.now.below) (fields_of message.now.bytes)) }
 {
+    let (input, names) = zip(rel_at(alloc, message, 1), message.texts(alloc, 2))?;
     Ok(RootDecl {
         is_root: true,
-        input: rel_at(alloc, message, 1)?,
-        names: Items::from_vec(message.texts(alloc, 2)?),
+        input,
+        names: Items::from_vec(names),
     })
 }

@@ -5,8 +5,8 @@ use Rattle.std.proofs.lemmas.Bool.{leb-true}
 use Rattle.std.proofs.lemmas.List.Sums.{AllPass-from_list_all}
 use Rattle.sub_types.specs.declared.kind.Ty.{Ty}
 use Rattle.sub_types.specs.declared.value.Value.{Value}
-use Rattle.plan_tree.specs.declared.types.RawType.{RawType}
-use Rattle.plan_tree.specs.declared.read.VirtualTable.{VirtualTable, out-VirtualTable}
+use Rattle.plan_leaves.specs.declared.types.RawType.{RawType}
+use Rattle.plan_raw.specs.declared.source.VirtualTable.{VirtualTable, out-VirtualTable}
 use Rattle.plan_form.specs.Form.{MAX_COLUMNS, MAX_NAMES, is_within, is_empty, is_required_i64, row_of, table_rows}
 use Rattle.plan_form.specs.Rows.{values_in, AreRows}
 use Rattle.plan_form.specs.Steps.{all_of}

@@ -12,9 +12,9 @@ use Rattle.sub_types.specs.declared.value.Value.{Value}
 use Rattle.sub_types.specs.declared.value.Value.TheVariants.{Null}
 use Rattle.sub_types.specs.Value.{Fits, InKind, IsShort}
 use Rattle.sub_types.specs.Rows.{across, transpose}
-use Rattle.plan_tree.specs.declared.literal.RawLiteral.{RawLiteral}
-use Rattle.plan_tree.specs.declared.literal.RawLiteral.TheVariants as literals
-use Rattle.plan_tree.specs.declared.read.LiteralRow.{LiteralRow}
+use Rattle.plan_leaves.specs.declared.literal.RawLiteral.{RawLiteral}
+use Rattle.plan_leaves.specs.declared.literal.RawLiteral.TheVariants as literals
+use Rattle.plan_leaves.specs.declared.literal.LiteralRow.{LiteralRow}
 use Rattle.batch.specs.declared.column.Column.{Column}
 use Rattle.batch.specs.Column.{column_values, column_type}
 use Rattle.batch.proofs.RowLaws.{transpose-from}

@@ -8,19 +8,19 @@ use Rattle.sub_types.specs.declared.kind.Kind.TheVariants as kinds
 use Rattle.sub_types.specs.declared.kind.Ty.{Ty}
 use Rattle.sub_types.specs.declared.value.Value.{Value}
 use Rattle.sub_types.specs.declared.value.Value.TheVariants as values
-use Rattle.plan_tree.specs.declared.plan.PlanTree.{PlanTree}
-use Rattle.plan_tree.specs.declared.literal.RawLiteral.{RawLiteral}
-use Rattle.plan_tree.specs.declared.literal.RawLiteral.TheVariants as literals
-use Rattle.plan_tree.specs.declared.types.RawType.{RawType}
-use Rattle.plan_tree.specs.declared.types.RawType.TheVariants as types
-use Rattle.plan_tree.specs.declared.read.NamedStruct.{NamedStruct}
-use Rattle.plan_tree.specs.declared.read.LiteralRow.{LiteralRow}
-use Rattle.plan_tree.specs.declared.read.VirtualTable.{VirtualTable, out-VirtualTable}
-use Rattle.plan_tree.specs.declared.read.RawSource.{RawSource, out-RawSource}
-use Rattle.plan_tree.specs.declared.raw_rel.RelCommon.{RelCommon}
-use Rattle.plan_tree.specs.declared.raw_rel.RelCommon.TheVariants as commons
-use Rattle.plan_tree.specs.declared.raw_rel.RawRel.{RawRel, out-RawRel}
-use Rattle.plan_tree.specs.declared.argument.FunctionArgument.TheOpen.{RawRel-F, RawSource-F}
+use Rattle.plan_raw.specs.declared.plan.PlanTree.{PlanTree}
+use Rattle.plan_leaves.specs.declared.literal.RawLiteral.{RawLiteral}
+use Rattle.plan_leaves.specs.declared.literal.RawLiteral.TheVariants as literals
+use Rattle.plan_leaves.specs.declared.types.RawType.{RawType}
+use Rattle.plan_leaves.specs.declared.types.RawType.TheVariants as types
+use Rattle.plan_leaves.specs.declared.schema.NamedStruct.{NamedStruct}
+use Rattle.plan_leaves.specs.declared.literal.LiteralRow.{LiteralRow}
+use Rattle.plan_raw.specs.declared.source.VirtualTable.{VirtualTable, out-VirtualTable}
+use Rattle.plan_raw.specs.declared.source.RawSource.{RawSource, out-RawSource}
+use Rattle.plan_leaves.specs.declared.common.RelCommon.{RelCommon}
+use Rattle.plan_leaves.specs.declared.common.RelCommon.TheVariants as commons
+use Rattle.plan_raw.specs.declared.rel.RawRel.{RawRel, out-RawRel}
+use Rattle.plan_raw.specs.declared.argument.FunctionArgument.TheOpen.{RawRel-F, RawSource-F}
 use Rattle.plan_form.specs.Steps.{◌>>=◌, when, only, all_of}
 
 -- the most columns

@@ -3,8 +3,8 @@ use Rattle.std.specs.Prelude.{ℕ, ◌≡◌, List, map, unwrap_or, slice_index_
 use Rattle.std.specs.List.{All}
 use Rattle.sub_types.specs.declared.value.Value.{Value}
 use Rattle.sub_types.specs.declared.value.Value.TheVariants.{Null}
-use Rattle.plan_tree.specs.declared.literal.RawLiteral.{RawLiteral}
-use Rattle.plan_tree.specs.declared.read.LiteralRow.{LiteralRow}
+use Rattle.plan_leaves.specs.declared.literal.RawLiteral.{RawLiteral}
+use Rattle.plan_leaves.specs.declared.literal.LiteralRow.{LiteralRow}
 use Rattle.plan_form.specs.Form.{literal_of, row_of}
 
 -- the value of a literal, null for one that is none of the form

@@ -9,7 +9,8 @@ use crate::source::source_of;
 use crate::types::types_of;
 use batch::Batch;
 use plan_items::{CopyIn, Items};
-use plan_tree::{NamedStruct, PlanTree, RawRel, RawSource, RawType, RelCommon};
+use plan_leaves::{NamedStruct, RawType, RelCommon};
+use plan_raw::{PlanTree, RawRel, RawSource};
 use std::alloc::Global;
 use sub_types::{ByteList, NoMemory, Ty};
 

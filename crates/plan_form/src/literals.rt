@@ -6,7 +6,7 @@ ghost use Rattle.sub_types.specs.declared.kind.Kind.TheVariants as kinds;
 ghost use Rattle.plan_form.specs.Form as spec;
 ghost use Rattle.plan_form.specs.Rows.{literal_value, value_at};
 
-use plan_tree::{LiteralRow, RawLiteral};
+use plan_leaves::{LiteralRow, RawLiteral};
 use sub_types::Value;
 
 /// Whether each row has so many literals, each of them a 64-bit whole number that isn't nullable.

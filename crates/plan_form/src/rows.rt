@@ -10,7 +10,7 @@ ghost use Rattle.plan_form.specs.Seen.{AreBatches};
 
 use crate::literals::value_in;
 use batch::{Batch, Column, ColumnBuilder};
-use plan_tree::LiteralRow;
+use plan_leaves::LiteralRow;
 use std::alloc::Global;
 use sub_types::{Kind, NoMemory, Ty};
 

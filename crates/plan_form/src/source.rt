@@ -2,14 +2,14 @@
 ghost use Rattle.std.specs.Prelude.{◌≡◌, ◌&&◌, is_some, IfOk, IfSome};
 ghost use Rattle.std.specs.List.{join_with_byte, list_all};
 ghost use Rattle.std.specs.Option.{option_map};
-ghost use Rattle.plan_tree.specs.declared.read.VirtualTable.{out-VirtualTable};
+ghost use Rattle.plan_raw.specs.declared.source.VirtualTable.{out-VirtualTable};
 ghost use Rattle.plan_form.specs.Form as spec;
 ghost use Rattle.plan_form.specs.Seen.{source_seen, HasBatches};
 
 use crate::TableSource;
 use crate::literals::are_rows;
 use crate::rows::batches_of;
-use plan_tree::{RawSource, VirtualTable};
+use plan_raw::{RawSource, VirtualTable};
 use std::alloc::Global;
 use sub_types::{ByteList, Kind, NoMemory, Ty};
 

@@ -6,7 +6,7 @@ ghost use Rattle.sub_types.specs.Kind.{IsKind};
 ghost use Rattle.plan_form.specs.Form as spec;
 ghost use Rattle.plan_form.specs.Steps.{all_of};
 
-use plan_tree::RawType;
+use plan_leaves::RawType;
 use std::alloc::Global;
 use sub_types::{Kind, NoMemory, Ty};
 

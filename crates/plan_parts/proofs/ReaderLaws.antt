@@ -1,5 +1,5 @@
 -- How messages are found one level further down, and how the messages of a field are read one by one.
-use Rattle.std.proofs.Common.{◌≡◌, ◌∙◌, ℕ, suc, ◌+◌, List, [], ◌∷◌, ◌++◌, Option, Some, None, IfSome, refl, sym, ap, subst, append_assoc, add-one}
+use Rattle.std.proofs.Common.{◌≡◌, ◌∙◌, ℕ, suc, ◌+◌, List, [], ◌∷◌, ◌++◌, Option, Some, Result, Ok, Err, IfSome, IfOk, unwrap_or, refl, sym, ap, subst, append_assoc, add-one}
 use Rattle.std.specs.List.{filter_map}
 use Rattle.std.specs.Option.{option_map, option_and_then}
 use Rattle.pb_wire.specs.Payloads.{Field, fields_of, merged_message}
@@ -43,3 +43,14 @@ read_next above shape old new next done pushed all x from step read push whole =
     let one : reader above shape (fields_of next.bytes) ≡ Some x = reader-child next.below above shape (fields_of next.bytes) (step.1 ∙ from) ∙ ap Some (sym read) in
     let first : left_of above shape old.blocks ≡ x ∷ left_of above shape new.blocks = ap (left_of above shape) step.2 ∙ rw one refl in
     ap (λ front. front ++ left_of above shape new.blocks) push ∙ append_assoc done (x ∷ []) (left_of above shape new.blocks) ∙ ap (λ more. done ++ more) (sym first) ∙ whole
+
+-- what a oneof's member was read as, where its message was found
+pub read_won : {E : Type 0} (m : Scanned) (found : Option Scanned) (part : Scanned) (shape : Shape) (number : ℕ) (missing : Tree shape) (result : Result (Tree shape) E) →
+    found ≡ Some part →
+    option_map (λ (inner : Scanned). inner.bytes) found ≡ merged_message number (fields_of m.bytes) →
+    IfSome found (λ inner. inner.below + 1 ≡ m.below) →
+    IfOk result (λ x. x ≡ tree_by (reader part.below) shape (fields_of part.bytes)) →
+    IfOk result (λ x. x ≡ unwrap_or (child (reader m.below) shape number (fields_of m.bytes)) missing)
+read_won m found part shape number missing (Ok x) is bytes below read =
+    ap (λ o. unwrap_or o missing) (read_part m found part shape number x is bytes below read)
+read_won m found part shape number missing (Err error) is bytes below read = tt

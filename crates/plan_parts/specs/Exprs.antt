@@ -4,12 +4,12 @@ use Rattle.std.specs.Option.{option_map_or}
 use Rattle.pb_wire.specs.Payloads.{Field, uint32_field, bytes_field}
 use Rattle.plan_scan.specs.declared.oneof.OneOf.TheVariants.{ArgumentType, RexType, SubqueryType}
 use Rattle.plan_scan.specs.declared.shape.Shape.TheVariants as s
-use Rattle.plan_tree.specs.declared.argument.FunctionArgument.{FunctionArgument}
-use Rattle.plan_tree.specs.declared.argument.FunctionArgument.TheVariants as a
-use Rattle.plan_tree.specs.declared.raw_expr.RawExpr.{RawExpr}
-use Rattle.plan_tree.specs.declared.raw_expr.RawExpr.TheVariants as e
-use Rattle.plan_tree.specs.declared.raw_expr.IfClause.{IfClause, roll-IfClause}
-use Rattle.plan_tree.specs.declared.raw_expr.IfValue.{IfValue, roll-IfValue}
+use Rattle.plan_raw.specs.declared.argument.FunctionArgument.{FunctionArgument}
+use Rattle.plan_raw.specs.declared.argument.FunctionArgument.TheVariants as a
+use Rattle.plan_raw.specs.declared.expr.RawExpr.{RawExpr}
+use Rattle.plan_raw.specs.declared.expr.RawExpr.TheVariants as e
+use Rattle.plan_raw.specs.declared.expr.IfClause.{IfClause, roll-IfClause}
+use Rattle.plan_raw.specs.declared.expr.IfValue.{IfValue, roll-IfValue}
 use Rattle.plan_parts.specs.Words.{part, parts, winner}
 use Rattle.plan_parts.specs.Parts.{option_of, selection_of}
 use Rattle.plan_parts.specs.Shapes.{Reader, child, children}

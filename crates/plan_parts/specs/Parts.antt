@@ -3,23 +3,23 @@ use Rattle.std.specs.Prelude.{ℕ, List, [], Option, false, ◌||◌, ◌==◌, 
 use Rattle.std.specs.List.{filter_map}
 use Rattle.pb_wire.specs.Payloads.{Field, fields_of, blocks, uint32_field, int32_field, bytes_field, int32_numbers}
 use Rattle.plan_scan.specs.declared.oneof.OneOf.TheVariants.{EmitKind, PathType}
-use Rattle.plan_tree.specs.declared.plan.UriDecl.{UriDecl}
-use Rattle.plan_tree.specs.declared.plan.FunDecl.{FunDecl}
-use Rattle.plan_tree.specs.declared.raw_rel.RelCommon.{RelCommon}
-use Rattle.plan_tree.specs.declared.raw_rel.RelCommon.TheVariants as common
-use Rattle.plan_tree.specs.declared.read.NamedTable.{NamedTable}
-use Rattle.plan_tree.specs.declared.read.LocalFiles.{LocalFiles}
-use Rattle.plan_tree.specs.declared.read.FileItem.{FileItem}
-use Rattle.plan_tree.specs.declared.read.ItemPath.{ItemPath}
-use Rattle.plan_tree.specs.declared.read.ItemPath.TheVariants as path
-use Rattle.plan_tree.specs.declared.read.MaskExpression.{MaskExpression}
-use Rattle.plan_tree.specs.declared.read.MaskStruct.{MaskStruct}
-use Rattle.plan_tree.specs.declared.read.MaskItem.{MaskItem}
-use Rattle.plan_tree.specs.declared.argument.FunctionOption.{FunctionOption}
-use Rattle.plan_tree.specs.declared.raw_expr.ReferenceSegment.{ReferenceSegment}
-use Rattle.plan_tree.specs.declared.raw_expr.StructField.{StructField}
-use Rattle.plan_tree.specs.declared.raw_expr.RawExpr.{RawExpr}
-use Rattle.plan_tree.specs.declared.raw_expr.RawExpr.TheVariants as e
+use Rattle.plan_leaves.specs.declared.extensions.UriDecl.{UriDecl}
+use Rattle.plan_leaves.specs.declared.extensions.FunDecl.{FunDecl}
+use Rattle.plan_leaves.specs.declared.common.RelCommon.{RelCommon}
+use Rattle.plan_leaves.specs.declared.common.RelCommon.TheVariants as common
+use Rattle.plan_leaves.specs.declared.schema.NamedTable.{NamedTable}
+use Rattle.plan_leaves.specs.declared.files.LocalFiles.{LocalFiles}
+use Rattle.plan_leaves.specs.declared.files.FileItem.{FileItem}
+use Rattle.plan_leaves.specs.declared.files.ItemPath.{ItemPath}
+use Rattle.plan_leaves.specs.declared.files.ItemPath.TheVariants as path
+use Rattle.plan_leaves.specs.declared.mask.MaskExpression.{MaskExpression}
+use Rattle.plan_leaves.specs.declared.mask.MaskStruct.{MaskStruct}
+use Rattle.plan_leaves.specs.declared.mask.MaskItem.{MaskItem}
+use Rattle.plan_leaves.specs.declared.options.FunctionOption.{FunctionOption}
+use Rattle.plan_leaves.specs.declared.reference.ReferenceSegment.{ReferenceSegment}
+use Rattle.plan_leaves.specs.declared.reference.StructField.{StructField}
+use Rattle.plan_raw.specs.declared.expr.RawExpr.{RawExpr}
+use Rattle.plan_raw.specs.declared.expr.RawExpr.TheVariants as e
 use Rattle.plan_parts.specs.Words.{part, parts, is_there, winner}
 
 -- SimpleExtensionURI

@@ -5,7 +5,7 @@ use Rattle.plan_scan.specs.declared.shape.Shape.{Shape}
 use Rattle.plan_scan.specs.declared.shape.Shape.TheVariants as s
 use Rattle.plan_scan.specs.declared.flaw.Flaw.{Flaw}
 use Rattle.plan_scan.specs.Flaw.{flaw}
-use Rattle.plan_tree.specs.declared.plan.PlanTree.{PlanTree}
+use Rattle.plan_raw.specs.declared.plan.PlanTree.{PlanTree}
 use Rattle.plan_parts.specs.Shapes.{Tree, Reader}
 use Rattle.plan_parts.specs.Types.{type_by, struct_type_by, literal_by}
 use Rattle.plan_parts.specs.Exprs.{argument_by, scalar_function_by, if_clause_by, if_then_by, if_value_by, switch_by, singular_or_list_by, cast_by, scalar_by, in_predicate_by, set_predicate_by, subquery_by, expression_by}

@@ -4,25 +4,25 @@ use Rattle.std.specs.Option.{option_map_or}
 use Rattle.pb_wire.specs.Payloads.{Field, blocks, uint32_field, int64_field, uint32_numbers}
 use Rattle.plan_scan.specs.declared.oneof.OneOf.TheVariants.{PlanRelType, ReadType, OffsetMode, CountMode, RelType}
 use Rattle.plan_scan.specs.declared.shape.Shape.TheVariants as s
-use Rattle.plan_tree.specs.declared.plan.PlanTree.{PlanTree}
-use Rattle.plan_tree.specs.declared.plan.RootDecl.{RootDecl}
-use Rattle.plan_tree.specs.declared.raw_rel.RelCommon.{RelCommon}
-use Rattle.plan_tree.specs.declared.raw_rel.RawRel.{RawRel}
-use Rattle.plan_tree.specs.declared.raw_rel.RawRel.TheVariants as rel
-use Rattle.plan_tree.specs.declared.raw_rel.RawOffset.{RawOffset}
-use Rattle.plan_tree.specs.declared.raw_rel.RawOffset.TheVariants as offset
-use Rattle.plan_tree.specs.declared.raw_rel.RawCount.{RawCount}
-use Rattle.plan_tree.specs.declared.raw_rel.RawCount.TheVariants as count
-use Rattle.plan_tree.specs.declared.read.NamedStruct.{NamedStruct}
-use Rattle.plan_tree.specs.declared.read.LiteralRow.{LiteralRow}
-use Rattle.plan_tree.specs.declared.read.ExprRow.{ExprRow, roll-ExprRow}
-use Rattle.plan_tree.specs.declared.read.VirtualTable.{VirtualTable, roll-VirtualTable}
-use Rattle.plan_tree.specs.declared.read.RawSource.{RawSource}
-use Rattle.plan_tree.specs.declared.read.RawSource.TheVariants as source
-use Rattle.plan_tree.specs.declared.aggregate.Grouping.{Grouping, roll-Grouping}
-use Rattle.plan_tree.specs.declared.aggregate.Measure.{Measure, roll-Measure}
-use Rattle.plan_tree.specs.declared.aggregate.AggregateFunction.{AggregateFunction, roll-AggregateFunction}
-use Rattle.plan_tree.specs.declared.aggregate.SortField.{SortField, roll-SortField}
+use Rattle.plan_raw.specs.declared.plan.PlanTree.{PlanTree}
+use Rattle.plan_raw.specs.declared.plan.RootDecl.{RootDecl}
+use Rattle.plan_leaves.specs.declared.common.RelCommon.{RelCommon}
+use Rattle.plan_raw.specs.declared.rel.RawRel.{RawRel}
+use Rattle.plan_raw.specs.declared.rel.RawRel.TheVariants as rel
+use Rattle.plan_raw.specs.declared.rel.RawOffset.{RawOffset}
+use Rattle.plan_raw.specs.declared.rel.RawOffset.TheVariants as offset
+use Rattle.plan_raw.specs.declared.rel.RawCount.{RawCount}
+use Rattle.plan_raw.specs.declared.rel.RawCount.TheVariants as count
+use Rattle.plan_leaves.specs.declared.schema.NamedStruct.{NamedStruct}
+use Rattle.plan_leaves.specs.declared.literal.LiteralRow.{LiteralRow}
+use Rattle.plan_raw.specs.declared.source.ExprRow.{ExprRow, roll-ExprRow}
+use Rattle.plan_raw.specs.declared.source.VirtualTable.{VirtualTable, roll-VirtualTable}
+use Rattle.plan_raw.specs.declared.source.RawSource.{RawSource}
+use Rattle.plan_raw.specs.declared.source.RawSource.TheVariants as source
+use Rattle.plan_raw.specs.declared.aggregate.Grouping.{Grouping, roll-Grouping}
+use Rattle.plan_raw.specs.declared.aggregate.Measure.{Measure, roll-Measure}
+use Rattle.plan_raw.specs.declared.aggregate.AggregateFunction.{AggregateFunction, roll-AggregateFunction}
+use Rattle.plan_raw.specs.declared.aggregate.SortField.{SortField, roll-SortField}
 use Rattle.plan_parts.specs.Words.{part, parts, winner}
 use Rattle.plan_parts.specs.Parts.{uri_of, functions_of, common_of, named_table_of, local_files_of, mask_of, option_of}
 use Rattle.plan_parts.specs.Shapes.{Reader, child, children}

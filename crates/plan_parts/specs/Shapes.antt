@@ -5,24 +5,24 @@ use Rattle.std.specs.List.{filter_map}
 use Rattle.pb_wire.specs.Payloads.{Field, fields_of, blocks, merged_message}
 use Rattle.plan_scan.specs.declared.shape.Shape.{Shape}
 use Rattle.plan_scan.specs.declared.shape.Shape.TheVariants as s
-use Rattle.plan_tree.specs.declared.plan.PlanTree.{PlanTree}
-use Rattle.plan_tree.specs.declared.plan.RootDecl.{RootDecl}
-use Rattle.plan_tree.specs.declared.raw_rel.RawRel.{RawRel}
-use Rattle.plan_tree.specs.declared.raw_expr.RawExpr.{RawExpr}
-use Rattle.plan_tree.specs.declared.raw_expr.IfClause.{IfClause}
-use Rattle.plan_tree.specs.declared.raw_expr.IfValue.{IfValue}
-use Rattle.plan_tree.specs.declared.read.NamedStruct.{NamedStruct}
-use Rattle.plan_tree.specs.declared.read.VirtualTable.{VirtualTable}
-use Rattle.plan_tree.specs.declared.read.LiteralRow.{LiteralRow}
-use Rattle.plan_tree.specs.declared.read.ExprRow.{ExprRow}
-use Rattle.plan_tree.specs.declared.types.RawType.{RawType}
-use Rattle.plan_tree.specs.declared.types.StructType.{StructType}
-use Rattle.plan_tree.specs.declared.literal.RawLiteral.{RawLiteral}
-use Rattle.plan_tree.specs.declared.argument.FunctionArgument.{FunctionArgument}
-use Rattle.plan_tree.specs.declared.aggregate.Grouping.{Grouping}
-use Rattle.plan_tree.specs.declared.aggregate.Measure.{Measure}
-use Rattle.plan_tree.specs.declared.aggregate.AggregateFunction.{AggregateFunction}
-use Rattle.plan_tree.specs.declared.aggregate.SortField.{SortField}
+use Rattle.plan_raw.specs.declared.plan.PlanTree.{PlanTree}
+use Rattle.plan_raw.specs.declared.plan.RootDecl.{RootDecl}
+use Rattle.plan_raw.specs.declared.rel.RawRel.{RawRel}
+use Rattle.plan_raw.specs.declared.expr.RawExpr.{RawExpr}
+use Rattle.plan_raw.specs.declared.expr.IfClause.{IfClause}
+use Rattle.plan_raw.specs.declared.expr.IfValue.{IfValue}
+use Rattle.plan_leaves.specs.declared.schema.NamedStruct.{NamedStruct}
+use Rattle.plan_raw.specs.declared.source.VirtualTable.{VirtualTable}
+use Rattle.plan_leaves.specs.declared.literal.LiteralRow.{LiteralRow}
+use Rattle.plan_raw.specs.declared.source.ExprRow.{ExprRow}
+use Rattle.plan_leaves.specs.declared.types.RawType.{RawType}
+use Rattle.plan_leaves.specs.declared.types.StructType.{StructType}
+use Rattle.plan_leaves.specs.declared.literal.RawLiteral.{RawLiteral}
+use Rattle.plan_raw.specs.declared.argument.FunctionArgument.{FunctionArgument}
+use Rattle.plan_raw.specs.declared.aggregate.Grouping.{Grouping}
+use Rattle.plan_raw.specs.declared.aggregate.Measure.{Measure}
+use Rattle.plan_raw.specs.declared.aggregate.AggregateFunction.{AggregateFunction}
+use Rattle.plan_raw.specs.declared.aggregate.SortField.{SortField}
 
 -- what a message of a shape is read as; the others hold no such message and are read where they stand
 abbrev pub Tree : Shape → Type 0

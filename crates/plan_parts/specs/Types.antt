@@ -4,11 +4,11 @@ use Rattle.std.specs.Option.{option_map_or}
 use Rattle.pb_wire.specs.Payloads.{Field, uint32_field, int32_field, int64_field, bool_field, bytes_field}
 use Rattle.plan_scan.specs.declared.oneof.OneOf.TheVariants.{LiteralType, TypeKind}
 use Rattle.plan_scan.specs.declared.shape.Shape.TheVariants as s
-use Rattle.plan_tree.specs.declared.types.RawType.{RawType}
-use Rattle.plan_tree.specs.declared.types.RawType.TheVariants as t
-use Rattle.plan_tree.specs.declared.types.StructType.{StructType}
-use Rattle.plan_tree.specs.declared.literal.RawLiteral.{RawLiteral}
-use Rattle.plan_tree.specs.declared.literal.RawLiteral.TheVariants as l
+use Rattle.plan_leaves.specs.declared.types.RawType.{RawType}
+use Rattle.plan_leaves.specs.declared.types.RawType.TheVariants as t
+use Rattle.plan_leaves.specs.declared.types.StructType.{StructType}
+use Rattle.plan_leaves.specs.declared.literal.RawLiteral.{RawLiteral}
+use Rattle.plan_leaves.specs.declared.literal.RawLiteral.TheVariants as l
 use Rattle.plan_parts.specs.Words.{part, winner}
 use Rattle.plan_parts.specs.Shapes.{Reader, child, children}
 

@@ -7,8 +7,8 @@ ghost use Rattle.plan_parts.specs.Rels.{common_in};
 ghost use Rattle.plan_parts.specs.Reader.{plan_of};
 
 use plan_items::Items;
+use plan_leaves::RelCommon;
 use plan_scan::{Message, OneOf, Shape};
-use plan_tree::RelCommon;
 use std::alloc::Global;
 use sub_types::NoMemory;
 

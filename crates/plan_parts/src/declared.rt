@@ -7,8 +7,8 @@ ghost use Rattle.plan_parts.specs.Words.{part, parts};
 ghost use Rattle.plan_parts.specs.Parts.{uri_of, function_of, functions_of};
 
 use plan_items::Items;
+use plan_leaves::{FunDecl, UriDecl};
 use plan_scan::{Message, Shape};
-use plan_tree::{FunDecl, UriDecl};
 use std::alloc::Global;
 use sub_types::NoMemory;
 

@@ -4,8 +4,8 @@ ghost use Rattle.pb_wire.specs.Payloads.{fields_of};
 ghost use Rattle.plan_parts.specs.Parts.{named_table_of, path_member, file_item_of, local_files_of};
 
 use plan_items::Items;
+use plan_leaves::{FileItem, ItemPath, LocalFiles, NamedTable};
 use plan_scan::{Message, OneOf, Shape};
-use plan_tree::{FileItem, ItemPath, LocalFiles, NamedTable};
 use std::alloc::Global;
 use sub_types::NoMemory;
 

@@ -9,8 +9,8 @@ ghost use Rattle.plan_parts.specs.Reader.{reader};
 
 use crate::types::type_at;
 use plan_items::Items;
+use plan_leaves::{LiteralRow, RawLiteral};
 use plan_scan::{Message, OneOf, Shape};
-use plan_tree::{LiteralRow, RawLiteral};
 use std::alloc::Global;
 use sub_types::NoMemory;
 

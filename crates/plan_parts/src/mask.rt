@@ -6,8 +6,8 @@ ghost use Rattle.plan_parts.specs.Words.{part, parts};
 ghost use Rattle.plan_parts.specs.Parts.{mask_item_of, mask_struct_of, mask_of};
 
 use plan_items::Items;
+use plan_leaves::{MaskExpression, MaskItem, MaskStruct};
 use plan_scan::{Message, Shape};
-use plan_tree::{MaskExpression, MaskItem, MaskStruct};
 use std::alloc::Global;
 use sub_types::NoMemory;
 

@@ -6,8 +6,8 @@ ghost use Rattle.plan_parts.specs.Words.{parts};
 ghost use Rattle.plan_parts.specs.Parts.{option_of};
 
 use plan_items::Items;
+use plan_leaves::FunctionOption;
 use plan_scan::{Message, Shape};
-use plan_tree::FunctionOption;
 use std::alloc::Global;
 use sub_types::NoMemory;
 

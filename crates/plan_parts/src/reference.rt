@@ -5,8 +5,9 @@ ghost use Rattle.plan_scan.specs.Table.{HoldsMessage};
 ghost use Rattle.plan_parts.specs.Words.{part};
 ghost use Rattle.plan_parts.specs.Parts.{struct_field_of, segment_of, selection_of};
 
+use plan_leaves::{ReferenceSegment, StructField};
+use plan_raw::RawExpr;
 use plan_scan::{Message, Shape};
-use plan_tree::{RawExpr, ReferenceSegment, StructField};
 use std::alloc::Global;
 use sub_types::NoMemory;
 

@@ -8,8 +8,8 @@ ghost use Rattle.plan_parts.specs.Reader.{reader};
 
 use crate::types::struct_type_at;
 use plan_items::Items;
+use plan_leaves::NamedStruct;
 use plan_scan::{Message, Shape};
-use plan_tree::NamedStruct;
 use std::alloc::Global;
 use sub_types::NoMemory;
 

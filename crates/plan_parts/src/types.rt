@@ -8,8 +8,8 @@ ghost use Rattle.plan_parts.specs.Types.{nullability_of, decimal_type_of, decima
 ghost use Rattle.plan_parts.specs.Reader.{reader};
 
 use plan_items::Items;
+use plan_leaves::{RawType, StructType};
 use plan_scan::{Message, OneOf, Shape};
-use plan_tree::{RawType, StructType};
 use std::alloc::Global;
 use sub_types::NoMemory;
 

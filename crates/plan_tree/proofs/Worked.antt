@@ -1,8 +1,8 @@
 -- Worked trees: a filter over a cross join of two relations, by a subquery.
 use Rattle.std.proofs.Common.{◌≡◌, ◌∷◌, [], Some, None, rules}
-use Rattle.plan_tree.specs.declared.raw_rel.RawRel.{RawRel, the_lemmas}
-use Rattle.plan_tree.specs.declared.raw_rel.RawRel.TheVariants as r
-use Rattle.plan_tree.specs.declared.raw_expr.RawExpr.TheVariants as e
+use Rattle.plan_raw.specs.declared.rel.RawRel.{RawRel, the_lemmas}
+use Rattle.plan_raw.specs.declared.rel.RawRel.TheVariants as r
+use Rattle.plan_raw.specs.declared.expr.RawExpr.TheVariants as e
 use Rattle.plan_tree.specs.Numbering.{relation_count, input_numbers, subquery_number}
 
 abbrev filter : RawRel

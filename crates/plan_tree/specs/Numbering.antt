@@ -3,23 +3,23 @@
 use Rattle.std.specs.Prelude.{ℕ, ◌+◌, List, [], ◌∷◌, ◌++◌, Option, sum, map, unwrap_or}
 use Rattle.std.specs.List.{concat}
 use Rattle.std.specs.Option.{option_to_list}
-use Rattle.plan_tree.specs.declared.argument.FunctionArgument.TheOpen.{FunctionArgument-F, RawExpr-F, RawCount-F, RawOffset-F, RawRel-F, RawSource-F}
-use Rattle.plan_tree.specs.declared.raw_rel.RawRel.{RawRel, fold-RawRel, out-RawRel}
-use Rattle.plan_tree.specs.declared.raw_expr.RawExpr.{RawExpr}
-use Rattle.plan_tree.specs.declared.raw_rel.RawCount.{RawCount}
-use Rattle.plan_tree.specs.declared.raw_rel.RawOffset.{RawOffset}
-use Rattle.plan_tree.specs.declared.raw_expr.IfClause.{IfClause}
-use Rattle.plan_tree.specs.declared.raw_expr.IfValue.{IfValue}
-use Rattle.plan_tree.specs.declared.read.RawSource.{RawSource}
-use Rattle.plan_tree.specs.declared.read.ExprRow.{ExprRow}
-use Rattle.plan_tree.specs.declared.read.VirtualTable.{VirtualTable}
-use Rattle.plan_tree.specs.declared.argument.FunctionArgument.{FunctionArgument}
-use Rattle.plan_tree.specs.declared.aggregate.AggregateFunction.{AggregateFunction}
-use Rattle.plan_tree.specs.declared.aggregate.Grouping.{Grouping}
-use Rattle.plan_tree.specs.declared.aggregate.Measure.{Measure}
-use Rattle.plan_tree.specs.declared.aggregate.SortField.{SortField}
-use Rattle.plan_tree.specs.declared.rel.Rel.{Rel, fold-Rel}
-use Rattle.plan_tree.specs.declared.rel.Op.TheOpen.{Op-F}
+use Rattle.plan_raw.specs.declared.argument.FunctionArgument.TheOpen.{FunctionArgument-F, RawExpr-F, RawCount-F, RawOffset-F, RawRel-F, RawSource-F}
+use Rattle.plan_raw.specs.declared.rel.RawRel.{RawRel, fold-RawRel, out-RawRel}
+use Rattle.plan_raw.specs.declared.expr.RawExpr.{RawExpr}
+use Rattle.plan_raw.specs.declared.rel.RawCount.{RawCount}
+use Rattle.plan_raw.specs.declared.rel.RawOffset.{RawOffset}
+use Rattle.plan_raw.specs.declared.expr.IfClause.{IfClause}
+use Rattle.plan_raw.specs.declared.expr.IfValue.{IfValue}
+use Rattle.plan_raw.specs.declared.source.RawSource.{RawSource}
+use Rattle.plan_raw.specs.declared.source.ExprRow.{ExprRow}
+use Rattle.plan_raw.specs.declared.source.VirtualTable.{VirtualTable}
+use Rattle.plan_raw.specs.declared.argument.FunctionArgument.{FunctionArgument}
+use Rattle.plan_raw.specs.declared.aggregate.AggregateFunction.{AggregateFunction}
+use Rattle.plan_raw.specs.declared.aggregate.Grouping.{Grouping}
+use Rattle.plan_raw.specs.declared.aggregate.Measure.{Measure}
+use Rattle.plan_raw.specs.declared.aggregate.SortField.{SortField}
+use Rattle.plan_typed.specs.declared.rel.Rel.{Rel, fold-Rel}
+use Rattle.plan_typed.specs.declared.rel.Op.TheOpen.{Op-F}
 
 -- none where nothing is there
 abbrev pub held : Option ℕ → ℕ

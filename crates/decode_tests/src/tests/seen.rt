@@ -1,6 +1,7 @@
 // What a test sees of a tree.
 use plan_items::Items;
-use plan_tree::{PlanTree, RawExpr, RawLiteral, RawRel, RawSource, RawType, RelCommon, StructType};
+use plan_leaves::{RawLiteral, RawType, RelCommon, StructType};
+use plan_raw::{PlanTree, RawExpr, RawRel, RawSource};
 use sub_types::ByteList;
 
 /// Whether these are one name.

@@ -1,7 +1,11 @@
 -- What is read one level further down, and one message more of a repeated field.
-use Rattle.std.proofs.Common.{◌∙◌}
+use Rattle.std.proofs.Common.{◌∙◌, ap}
+use Rattle.std.specs.Option.{option_map_or}
 use Rattle.plan_scan.specs.declared.shape.Shape.TheVariants as s
-use Rattle.plan_parts.proofs.ReaderLaws.{read_part, read_next}
+use Rattle.plan_raw.specs.declared.expr.RawExpr.TheVariants as expr
+use Rattle.plan_raw.specs.declared.rel.RawRel.TheVariants as rel
+use Rattle.plan_raw.specs.declared.source.RawSource.TheVariants as source
+use Rattle.plan_parts.proofs.ReaderLaws.{read_part, read_next, read_won}
 use Rattle.plan_decode.proofs.+tree.Goals as goal
 
 pub at::expr_at-returns-in_ok-expression-in-Some : goal.at::expr_at-returns-in_ok-expression-in-Some
@@ -46,31 +50,6 @@ expr::if_values_at-loop-found-preserved t c = record {
       c.loop-found.invariant.above c.in-Some.ensures c.in_ok-if_value.ensures c.in_ok-push.ensures.items c.loop-found.invariant.whole;
 }
 
-pub expr::scalar_function_at-returns-in_ok-scalar_function-in-Some : goal.expr::scalar_function_at-returns-in_ok-scalar_function-in-Some
-expr::scalar_function_at-returns-in_ok-scalar_function-in-Some t c =
-    read_part c.args.message.now c.in_ok-message.field-0 c.in-Some.found s.ScalarFunction c.args.number c.in_ok-scalar_function-in-Some.field-0
-    c.in-Some.is c.in_ok-message.ensures.bytes c.in_ok-message.ensures.below c.in_ok-scalar_function-in-Some.ensures
-
-pub expr::if_then_at-returns-in_ok-if_then-in-Some : goal.expr::if_then_at-returns-in_ok-if_then-in-Some
-expr::if_then_at-returns-in_ok-if_then-in-Some t c =
-    read_part c.args.message.now c.in_ok-message.field-0 c.in-Some.found s.IfThen c.args.number c.in_ok-if_then-in-Some.field-0
-    c.in-Some.is c.in_ok-message.ensures.bytes c.in_ok-message.ensures.below c.in_ok-if_then-in-Some.ensures
-
-pub expr::switch_at-returns-in_ok-switch-in-Some : goal.expr::switch_at-returns-in_ok-switch-in-Some
-expr::switch_at-returns-in_ok-switch-in-Some t c =
-    read_part c.args.message.now c.in_ok-message.field-0 c.in-Some.found s.SwitchExpression c.args.number c.in_ok-switch-in-Some.field-0
-    c.in-Some.is c.in_ok-message.ensures.bytes c.in_ok-message.ensures.below c.in_ok-switch-in-Some.ensures
-
-pub expr::singular_or_list_at-returns-in_ok-singular_or_list-in-Some : goal.expr::singular_or_list_at-returns-in_ok-singular_or_list-in-Some
-expr::singular_or_list_at-returns-in_ok-singular_or_list-in-Some t c =
-    read_part c.args.message.now c.in_ok-message.field-0 c.in-Some.found s.SingularOrList c.args.number c.in_ok-singular_or_list-in-Some.field-0
-    c.in-Some.is c.in_ok-message.ensures.bytes c.in_ok-message.ensures.below c.in_ok-singular_or_list-in-Some.ensures
-
-pub expr::cast_at-returns-in_ok-cast-in-Some : goal.expr::cast_at-returns-in_ok-cast-in-Some
-expr::cast_at-returns-in_ok-cast-in-Some t c =
-    read_part c.args.message.now c.in_ok-message.field-0 c.in-Some.found s.Cast c.args.number c.in_ok-cast-in-Some.field-0
-    c.in-Some.is c.in_ok-message.ensures.bytes c.in_ok-message.ensures.below c.in_ok-cast-in-Some.ensures
-
 pub argument::arguments_at-loop-found-preserved : goal.argument::arguments_at-loop-found-preserved
 argument::arguments_at-loop-found-preserved t c = record {
   shape = c.in-Some.ensures.3 ∙ c.loop-found.invariant.shape;
@@ -78,61 +57,6 @@ argument::arguments_at-loop-found-preserved t c = record {
   whole = read_next c.args.message.now.below s.FunctionArgument c.loop-found.left c.next.new.self c.in-Some.found c.loop-found.arguments.items c.push.new.self.items _ c.in_ok-argument.field-0
       c.loop-found.invariant.above c.in-Some.ensures c.in_ok-argument.ensures c.in_ok-push.ensures.items c.loop-found.invariant.whole;
 }
-
-pub subquery::subquery_at-returns-in_ok-subquery-in-Some : goal.subquery::subquery_at-returns-in_ok-subquery-in-Some
-subquery::subquery_at-returns-in_ok-subquery-in-Some t c =
-    read_part c.args.message.now c.in_ok-message.field-0 c.in-Some.found s.Subquery c.args.number c.in_ok-subquery-in-Some.field-0
-    c.in-Some.is c.in_ok-message.ensures.bytes c.in_ok-message.ensures.below c.in_ok-subquery-in-Some.ensures
-
-pub subquery::scalar_at-returns-in_ok-scalar-in-Some : goal.subquery::scalar_at-returns-in_ok-scalar-in-Some
-subquery::scalar_at-returns-in_ok-scalar-in-Some t c =
-    read_part c.args.message.now c.in_ok-message.field-0 c.in-Some.found s.ScalarSubquery c.args.number c.in_ok-scalar-in-Some.field-0
-    c.in-Some.is c.in_ok-message.ensures.bytes c.in_ok-message.ensures.below c.in_ok-scalar-in-Some.ensures
-
-pub subquery::in_predicate_at-returns-in_ok-in_predicate-in-Some : goal.subquery::in_predicate_at-returns-in_ok-in_predicate-in-Some
-subquery::in_predicate_at-returns-in_ok-in_predicate-in-Some t c =
-    read_part c.args.message.now c.in_ok-message.field-0 c.in-Some.found s.InPredicate c.args.number c.in_ok-in_predicate-in-Some.field-0
-    c.in-Some.is c.in_ok-message.ensures.bytes c.in_ok-message.ensures.below c.in_ok-in_predicate-in-Some.ensures
-
-pub subquery::set_predicate_at-returns-in_ok-set_predicate-in-Some : goal.subquery::set_predicate_at-returns-in_ok-set_predicate-in-Some
-subquery::set_predicate_at-returns-in_ok-set_predicate-in-Some t c =
-    read_part c.args.message.now c.in_ok-message.field-0 c.in-Some.found s.SetPredicate c.args.number c.in_ok-set_predicate-in-Some.field-0
-    c.in-Some.is c.in_ok-message.ensures.bytes c.in_ok-message.ensures.below c.in_ok-set_predicate-in-Some.ensures
-
-pub rel::filter_at-returns-in_ok-filter-in-Some : goal.rel::filter_at-returns-in_ok-filter-in-Some
-rel::filter_at-returns-in_ok-filter-in-Some t c =
-    read_part c.args.message.now c.in_ok-message.field-0 c.in-Some.found s.FilterRel c.args.number c.in_ok-filter-in-Some.field-0
-    c.in-Some.is c.in_ok-message.ensures.bytes c.in_ok-message.ensures.below c.in_ok-filter-in-Some.ensures
-
-pub rel::sort_at-returns-in_ok-sort-in-Some : goal.rel::sort_at-returns-in_ok-sort-in-Some
-rel::sort_at-returns-in_ok-sort-in-Some t c =
-    read_part c.args.message.now c.in_ok-message.field-0 c.in-Some.found s.SortRel c.args.number c.in_ok-sort-in-Some.field-0
-    c.in-Some.is c.in_ok-message.ensures.bytes c.in_ok-message.ensures.below c.in_ok-sort-in-Some.ensures
-
-pub rel::join_at-returns-in_ok-join-in-Some : goal.rel::join_at-returns-in_ok-join-in-Some
-rel::join_at-returns-in_ok-join-in-Some t c =
-    read_part c.args.message.now c.in_ok-message.field-0 c.in-Some.found s.JoinRel c.args.number c.in_ok-join-in-Some.field-0
-    c.in-Some.is c.in_ok-message.ensures.bytes c.in_ok-message.ensures.below c.in_ok-join-in-Some.ensures
-
-pub rel::project_at-returns-in_ok-project-in-Some : goal.rel::project_at-returns-in_ok-project-in-Some
-rel::project_at-returns-in_ok-project-in-Some t c =
-    read_part c.args.message.now c.in_ok-message.field-0 c.in-Some.found s.ProjectRel c.args.number c.in_ok-project-in-Some.field-0
-    c.in-Some.is c.in_ok-message.ensures.bytes c.in_ok-message.ensures.below c.in_ok-project-in-Some.ensures
-
-pub rel::set_at-returns-in_ok-set-in-Some : goal.rel::set_at-returns-in_ok-set-in-Some
-rel::set_at-returns-in_ok-set-in-Some t c =
-    read_part c.args.message.now c.in_ok-message.field-0 c.in-Some.found s.SetRel c.args.number c.in_ok-set-in-Some.field-0
-    c.in-Some.is c.in_ok-message.ensures.bytes c.in_ok-message.ensures.below c.in_ok-set-in-Some.ensures
-
-pub rel::cross_at-returns-in_ok-cross-in-Some : goal.rel::cross_at-returns-in_ok-cross-in-Some
-rel::cross_at-returns-in_ok-cross-in-Some t c =
-    read_part c.args.message.now c.in_ok-message.field-0 c.in-Some.found s.CrossRel c.args.number c.in_ok-cross-in-Some.field-0
-    c.in-Some.is c.in_ok-message.ensures.bytes c.in_ok-message.ensures.below c.in_ok-cross-in-Some.ensures
-
-pub fetch::fetch_at-returns-in_ok-fetch-in-Some : goal.fetch::fetch_at-returns-in_ok-fetch-in-Some
-fetch::fetch_at-returns-in_ok-fetch-in-Some t c =
-    read_part c.args.message.now c.in_ok-message.field-0 c.in-Some.found s.FetchRel c.args.number c.in_ok-fetch-in-Some.field-0
-    c.in-Some.is c.in_ok-message.ensures.bytes c.in_ok-message.ensures.below c.in_ok-fetch-in-Some.ensures
 
 pub aggregate::groupings_at-loop-found-preserved : goal.aggregate::groupings_at-loop-found-preserved
 aggregate::groupings_at-loop-found-preserved t c = record {
@@ -163,11 +87,6 @@ aggregate::sort_fields_at-loop-found-preserved t c = record {
       c.loop-found.invariant.above c.in-Some.ensures c.in_ok-sort_field.ensures c.in_ok-push.ensures.items c.loop-found.invariant.whole;
 }
 
-pub aggregate::aggregate_at-returns-in_ok-aggregate-in-Some : goal.aggregate::aggregate_at-returns-in_ok-aggregate-in-Some
-aggregate::aggregate_at-returns-in_ok-aggregate-in-Some t c =
-    read_part c.args.message.now c.in_ok-message.field-0 c.in-Some.found s.AggregateRel c.args.number c.in_ok-aggregate-in-Some.field-0
-    c.in-Some.is c.in_ok-message.ensures.bytes c.in_ok-message.ensures.below c.in_ok-aggregate-in-Some.ensures
-
 pub read::rows_at-loop-found-preserved : goal.read::rows_at-loop-found-preserved
 read::rows_at-loop-found-preserved t c = record {
   shape = c.in-Some.ensures.3 ∙ c.loop-found.invariant.shape;
@@ -176,12 +95,80 @@ read::rows_at-loop-found-preserved t c = record {
       c.loop-found.invariant.above c.in-Some.ensures c.in_ok-row.ensures c.in_ok-push.ensures.items c.loop-found.invariant.whole;
 }
 
-pub read::read_at-returns-in_ok-read-in-Some : goal.read::read_at-returns-in_ok-read-in-Some
-read::read_at-returns-in_ok-read-in-Some t c =
-    read_part c.args.message.now c.in_ok-message.field-0 c.in-Some.found s.ReadRel c.args.number c.in_ok-read-in-Some.field-0
-    c.in-Some.is c.in_ok-message.ensures.bytes c.in_ok-message.ensures.below c.in_ok-read-in-Some.ensures
+pub rel::member-returns-in-Some : goal.rel::member-returns-in-Some
+rel::member-returns-in-Some t c = rw c.in-1.is (read_won c.args.won.now c.in_ok-message-in-1.field-0 c.in-Some.found s.ReadRel 1 rel.Missing c.read.result
+    c.in-Some.is c.in_ok-message-in-1.ensures.bytes c.in_ok-message-in-1.ensures.below c.read.ensures)
 
-pub read::virtual_table_at-returns-in_ok-virtual_table-in-Some : goal.read::virtual_table_at-returns-in_ok-virtual_table-in-Some
-read::virtual_table_at-returns-in_ok-virtual_table-in-Some t c =
-    read_part c.args.message.now c.in_ok-message.field-0 c.in-Some.found s.VirtualTable c.args.number c.in_ok-virtual_table-in-Some.field-0
-    c.in-Some.is c.in_ok-message.ensures.bytes c.in_ok-message.ensures.below c.in_ok-virtual_table-in-Some.ensures
+pub rel::member-returns-in-Some-2 : goal.rel::member-returns-in-Some-2
+rel::member-returns-in-Some-2 t c = rw c.in-2.is (read_won c.args.won.now c.in_ok-message-in-2.field-0 c.in-Some-2.found s.FilterRel 2 rel.Missing c.filter.result
+    c.in-Some-2.is c.in_ok-message-in-2.ensures.bytes c.in_ok-message-in-2.ensures.below c.filter.ensures)
+
+pub rel::member-returns-in-Some-3 : goal.rel::member-returns-in-Some-3
+rel::member-returns-in-Some-3 t c = rw c.in-3.is (read_won c.args.won.now c.in_ok-message-in-3.field-0 c.in-Some-3.found s.FetchRel 3 rel.Missing c.fetch.result
+    c.in-Some-3.is c.in_ok-message-in-3.ensures.bytes c.in_ok-message-in-3.ensures.below c.fetch.ensures)
+
+pub rel::member-returns-in-Some-4 : goal.rel::member-returns-in-Some-4
+rel::member-returns-in-Some-4 t c = rw c.in-4.is (read_won c.args.won.now c.in_ok-message-in-4.field-0 c.in-Some-4.found s.AggregateRel 4 rel.Missing c.aggregate.result
+    c.in-Some-4.is c.in_ok-message-in-4.ensures.bytes c.in_ok-message-in-4.ensures.below c.aggregate.ensures)
+
+pub rel::member-returns-in-Some-5 : goal.rel::member-returns-in-Some-5
+rel::member-returns-in-Some-5 t c = rw c.in-5.is (read_won c.args.won.now c.in_ok-message-in-5.field-0 c.in-Some-5.found s.SortRel 5 rel.Missing c.sort.result
+    c.in-Some-5.is c.in_ok-message-in-5.ensures.bytes c.in_ok-message-in-5.ensures.below c.sort.ensures)
+
+pub rel::member-returns-in-Some-6 : goal.rel::member-returns-in-Some-6
+rel::member-returns-in-Some-6 t c = rw c.in-6.is (read_won c.args.won.now c.in_ok-message-in-6.field-0 c.in-Some-6.found s.JoinRel 6 rel.Missing c.join.result
+    c.in-Some-6.is c.in_ok-message-in-6.ensures.bytes c.in_ok-message-in-6.ensures.below c.join.ensures)
+
+pub rel::member-returns-in-Some-7 : goal.rel::member-returns-in-Some-7
+rel::member-returns-in-Some-7 t c = rw c.in-7.is (read_won c.args.won.now c.in_ok-message-in-7.field-0 c.in-Some-7.found s.ProjectRel 7 rel.Missing c.project.result
+    c.in-Some-7.is c.in_ok-message-in-7.ensures.bytes c.in_ok-message-in-7.ensures.below c.project.ensures)
+
+pub rel::member-returns-in-Some-8 : goal.rel::member-returns-in-Some-8
+rel::member-returns-in-Some-8 t c = rw c.in-8.is (read_won c.args.won.now c.in_ok-message-in-8.field-0 c.in-Some-8.found s.SetRel 8 rel.Missing c.set.result
+    c.in-Some-8.is c.in_ok-message-in-8.ensures.bytes c.in_ok-message-in-8.ensures.below c.set.ensures)
+
+pub rel::member-returns-in-Some-9 : goal.rel::member-returns-in-Some-9
+rel::member-returns-in-Some-9 t c = rw c.in-12.is (read_won c.args.won.now c.in_ok-message-in-12.field-0 c.in-Some-9.found s.CrossRel 12 rel.Missing c.cross.result
+    c.in-Some-9.is c.in_ok-message-in-12.ensures.bytes c.in_ok-message-in-12.ensures.below c.cross.ensures)
+
+pub expr::member-returns-in-Some-3 : goal.expr::member-returns-in-Some-3
+expr::member-returns-in-Some-3 t c = rw c.in-3.is (read_won c.args.won.now c.in_ok-message-in-3.field-0 c.in-Some-3.found s.ScalarFunction 3 expr.Missing c.scalar_function.result
+    c.in-Some-3.is c.in_ok-message-in-3.ensures.bytes c.in_ok-message-in-3.ensures.below c.scalar_function.ensures)
+
+pub expr::member-returns-in-Some-4 : goal.expr::member-returns-in-Some-4
+expr::member-returns-in-Some-4 t c = rw c.in-6.is (read_won c.args.won.now c.in_ok-message-in-6.field-0 c.in-Some-4.found s.IfThen 6 expr.Missing c.if_then.result
+    c.in-Some-4.is c.in_ok-message-in-6.ensures.bytes c.in_ok-message-in-6.ensures.below c.if_then.ensures)
+
+pub expr::member-returns-in-Some-5 : goal.expr::member-returns-in-Some-5
+expr::member-returns-in-Some-5 t c = rw c.in-7.is (read_won c.args.won.now c.in_ok-message-in-7.field-0 c.in-Some-5.found s.SwitchExpression 7 expr.Missing c.switch.result
+    c.in-Some-5.is c.in_ok-message-in-7.ensures.bytes c.in_ok-message-in-7.ensures.below c.switch.ensures)
+
+pub expr::member-returns-in-Some-6 : goal.expr::member-returns-in-Some-6
+expr::member-returns-in-Some-6 t c = rw c.in-8.is (read_won c.args.won.now c.in_ok-message-in-8.field-0 c.in-Some-6.found s.SingularOrList 8 expr.Missing c.singular_or_list.result
+    c.in-Some-6.is c.in_ok-message-in-8.ensures.bytes c.in_ok-message-in-8.ensures.below c.singular_or_list.ensures)
+
+pub expr::member-returns-in-Some-7 : goal.expr::member-returns-in-Some-7
+expr::member-returns-in-Some-7 t c = rw c.in-11.is (read_won c.args.won.now c.in_ok-message-in-11.field-0 c.in-Some-7.found s.Cast 11 expr.Missing c.cast.result
+    c.in-Some-7.is c.in_ok-message-in-11.ensures.bytes c.in_ok-message-in-11.ensures.below c.cast.ensures)
+
+pub expr::member-returns-in-Some-8 : goal.expr::member-returns-in-Some-8
+expr::member-returns-in-Some-8 t c = rw c.in-12.is (read_won c.args.won.now c.in_ok-message-in-12.field-0 c.in-Some-8.found s.Subquery 12 expr.Missing c.subquery.result
+    c.in-Some-8.is c.in_ok-message-in-12.ensures.bytes c.in_ok-message-in-12.ensures.below c.subquery.ensures)
+
+pub subquery::member-returns-in-Some : goal.subquery::member-returns-in-Some
+subquery::member-returns-in-Some t c = rw c.in-1.is (read_won c.args.won.now c.in_ok-message-in-1.field-0 c.in-Some.found s.ScalarSubquery 1 expr.SubqueryMissing c.scalar.result
+    c.in-Some.is c.in_ok-message-in-1.ensures.bytes c.in_ok-message-in-1.ensures.below c.scalar.ensures)
+
+pub subquery::member-returns-in-Some-2 : goal.subquery::member-returns-in-Some-2
+subquery::member-returns-in-Some-2 t c = rw c.in-2.is (read_won c.args.won.now c.in_ok-message-in-2.field-0 c.in-Some-2.found s.InPredicate 2 expr.SubqueryMissing c.in_predicate.result
+    c.in-Some-2.is c.in_ok-message-in-2.ensures.bytes c.in_ok-message-in-2.ensures.below c.in_predicate.ensures)
+
+pub subquery::member-returns-in-Some-3 : goal.subquery::member-returns-in-Some-3
+subquery::member-returns-in-Some-3 t c = rw c.in-3.is (read_won c.args.won.now c.in_ok-message-in-3.field-0 c.in-Some-3.found s.SetPredicate 3 expr.SubqueryMissing c.set_predicate.result
+    c.in-Some-3.is c.in_ok-message-in-3.ensures.bytes c.in_ok-message-in-3.ensures.below c.set_predicate.ensures)
+
+pub read::source_in-returns-in_ok-virtual_table-in-Some : goal.read::source_in-returns-in_ok-virtual_table-in-Some
+read::source_in-returns-in_ok-virtual_table-in-Some t c =
+    let found = read_part c.args.won.now c.in_ok-message-in-5.field-0 c.in-Some.found s.VirtualTable 5 c.in_ok-virtual_table-in-Some.field-0
+    c.in-Some.is c.in_ok-message-in-5.ensures.bytes c.in_ok-message-in-5.ensures.below c.in_ok-virtual_table-in-Some.ensures in
+    rw c.in-5.is (ap (λ o. option_map_or source.VirtualTable o source.Missing) found)

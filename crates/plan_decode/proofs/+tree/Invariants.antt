@@ -99,21 +99,6 @@ decreases-expr::singular_or_list l = 5 * l.message.now.below + 4
 abbrev pub decreases-expr::cast : goal.decreases-expr::cast
 decreases-expr::cast l = 5 * l.message.now.below + 4
 
-abbrev pub decreases-expr::scalar_function_at : goal.decreases-expr::scalar_function_at
-decreases-expr::scalar_function_at l = 5 * l.message.now.below + 0
-
-abbrev pub decreases-expr::if_then_at : goal.decreases-expr::if_then_at
-decreases-expr::if_then_at l = 5 * l.message.now.below + 0
-
-abbrev pub decreases-expr::switch_at : goal.decreases-expr::switch_at
-decreases-expr::switch_at l = 5 * l.message.now.below + 0
-
-abbrev pub decreases-expr::singular_or_list_at : goal.decreases-expr::singular_or_list_at
-decreases-expr::singular_or_list_at l = 5 * l.message.now.below + 0
-
-abbrev pub decreases-expr::cast_at : goal.decreases-expr::cast_at
-decreases-expr::cast_at l = 5 * l.message.now.below + 0
-
 abbrev pub invariant-argument::arguments_at-loop-found : goal.invariant-argument::arguments_at-loop-found
 invariant-argument::arguments_at-loop-found l = record {
   shape : l.left.shape ≡ s.FunctionArgument;
@@ -148,18 +133,6 @@ decreases-subquery::in_predicate l = 5 * l.message.now.below + 4
 abbrev pub decreases-subquery::set_predicate : goal.decreases-subquery::set_predicate
 decreases-subquery::set_predicate l = 5 * l.message.now.below + 4
 
-abbrev pub decreases-subquery::subquery_at : goal.decreases-subquery::subquery_at
-decreases-subquery::subquery_at l = 5 * l.message.now.below + 0
-
-abbrev pub decreases-subquery::scalar_at : goal.decreases-subquery::scalar_at
-decreases-subquery::scalar_at l = 5 * l.message.now.below + 0
-
-abbrev pub decreases-subquery::in_predicate_at : goal.decreases-subquery::in_predicate_at
-decreases-subquery::in_predicate_at l = 5 * l.message.now.below + 0
-
-abbrev pub decreases-subquery::set_predicate_at : goal.decreases-subquery::set_predicate_at
-decreases-subquery::set_predicate_at l = 5 * l.message.now.below + 0
-
 abbrev pub decreases-rel::relation : goal.decreases-rel::relation
 decreases-rel::relation l = 5 * l.message.now.below + 4
 
@@ -184,24 +157,6 @@ decreases-rel::set l = 5 * l.message.now.below + 4
 abbrev pub decreases-rel::cross : goal.decreases-rel::cross
 decreases-rel::cross l = 5 * l.message.now.below + 4
 
-abbrev pub decreases-rel::filter_at : goal.decreases-rel::filter_at
-decreases-rel::filter_at l = 5 * l.message.now.below + 0
-
-abbrev pub decreases-rel::sort_at : goal.decreases-rel::sort_at
-decreases-rel::sort_at l = 5 * l.message.now.below + 0
-
-abbrev pub decreases-rel::join_at : goal.decreases-rel::join_at
-decreases-rel::join_at l = 5 * l.message.now.below + 0
-
-abbrev pub decreases-rel::project_at : goal.decreases-rel::project_at
-decreases-rel::project_at l = 5 * l.message.now.below + 0
-
-abbrev pub decreases-rel::set_at : goal.decreases-rel::set_at
-decreases-rel::set_at l = 5 * l.message.now.below + 0
-
-abbrev pub decreases-rel::cross_at : goal.decreases-rel::cross_at
-decreases-rel::cross_at l = 5 * l.message.now.below + 0
-
 abbrev pub decreases-fetch::fetch : goal.decreases-fetch::fetch
 decreases-fetch::fetch l = 5 * l.message.now.below + 4
 
@@ -216,9 +171,6 @@ decreases-fetch::count l = 5 * l.message.now.below + 3
 
 abbrev pub decreases-fetch::count_in : goal.decreases-fetch::count_in
 decreases-fetch::count_in l = 5 * l.won.now.below + 2
-
-abbrev pub decreases-fetch::fetch_at : goal.decreases-fetch::fetch_at
-decreases-fetch::fetch_at l = 5 * l.message.now.below + 0
 
 abbrev pub invariant-aggregate::groupings_at-loop-found : goal.invariant-aggregate::groupings_at-loop-found
 invariant-aggregate::groupings_at-loop-found l = record {
@@ -277,9 +229,6 @@ decreases-aggregate::sort_fields_at l = 5 * l.message.now.below + 0
 abbrev pub decreases-aggregate::sort_field : goal.decreases-aggregate::sort_field
 decreases-aggregate::sort_field l = 5 * l.message.now.below + 4
 
-abbrev pub decreases-aggregate::aggregate_at : goal.decreases-aggregate::aggregate_at
-decreases-aggregate::aggregate_at l = 5 * l.message.now.below + 0
-
 abbrev pub invariant-read::rows_at-loop-found : goal.invariant-read::rows_at-loop-found
 invariant-read::rows_at-loop-found l = record {
   shape : l.left.shape ≡ s.ExpressionRow;
@@ -307,9 +256,3 @@ decreases-read::rows_at l = 5 * l.message.now.below + 0
 
 abbrev pub decreases-read::row : goal.decreases-read::row
 decreases-read::row l = 5 * l.message.now.below + 4
-
-abbrev pub decreases-read::read_at : goal.decreases-read::read_at
-decreases-read::read_at l = 5 * l.message.now.below + 0
-
-abbrev pub decreases-read::virtual_table_at : goal.decreases-read::virtual_table_at
-decreases-read::virtual_table_at l = 5 * l.message.now.below + 0

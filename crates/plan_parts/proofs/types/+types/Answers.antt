@@ -2,7 +2,7 @@ use Rattle.std.proofs.Common.{◌∙◌, ap}
 use Rattle.plan_scan.specs.declared.shape.Shape.TheVariants as s
 use Rattle.plan_parts.proofs.ReaderLaws.{read_next, read_part}
 use Rattle.std.specs.Option.{option_map_or}
-use Rattle.plan_tree.specs.declared.types.RawType.TheVariants as types
+use Rattle.plan_leaves.specs.declared.types.RawType.TheVariants as types
 use Rattle.plan_parts.proofs.types.+types.Goals as goal
 
 pub member-returns-in_ok-struct_type-in-Some : goal.member-returns-in_ok-struct_type-in-Some

@@ -1,6 +1,0 @@
-use Rattle.std.proofs.Common.{◌≡◌, take}
-use Rattle.plan_tree.proofs.raw_copy.+copy_type.Given as goal
-
--- the first so many types are copied
-abbrev pub invariant-loop-ty : goal.invariant-loop-ty
-invariant-loop-ty l = l.copies.items ≡ take l.ty-index l.ty-items
