@@ -10,7 +10,7 @@ use Rattle.arrow_meta.specs.File.{file_of}
 use Rattle.run_core.specs.Receipts.{IsBalanced, lists_of}
 use Rattle.plan_scan.specs.declared.flaw.Flaw.{Flaw}
 use Rattle.plan_scan.specs.declared.flaw.Flaw.TheVariants as flaws
-use Rattle.plan_tree.specs.declared.plan.PlanTree.{PlanTree}
+use Rattle.plan_raw.specs.declared.plan.PlanTree.{PlanTree}
 use Rattle.plan_parts.specs.Reader.{plan_of}
 use Rattle.plan_form.specs.Form.{Form, Source, Named, Rows, form_of}
 use Rattle.run_top.specs.declared.status.Status.{Status}
