@@ -5,3 +5,4 @@ pub mod OpenLaws
 pub mod BlockLaws
 pub mod HeadLaws
 pub mod WantedLaws
+pub mod IndexedLaws

@@ -1,7 +1,9 @@
 -- A file's head from its parts, and its parts from its head.
-use Rattle.std.proofs.Common.{◌≡◌, ◌∙◌, ℕ, ◌≤◌, List, map, Bool, true, false, ◌||◌, Option, Some, None, IfSome, Result, Ok, Err, refl, sym, ap, arith}
+use Rattle.std.proofs.Common.{◌≡◌, ◌∙◌, ℕ, ◌<◌, ◌≤◌, List, length, map, get_or, Bool, true, false, ◌||◌, Option, Some, None, IfSome, Result, Ok, Err, refl, sym, ap, arith}
 use Rattle.std.specs.List.{list_any}
 use Rattle.std.specs.Result.{result_ok}
+use Rattle.std.proofs.lemmas.List.Folds.{list_any_at}
+use Rattle.arrow_meta.specs.declared.meta.Block.{Block}
 use Rattle.arrow_meta.specs.declared.meta.RecordMeta.{RecordMeta}
 use Rattle.arrow_meta.specs.Dictionary.{DictionaryBlock, ColumnDictionary, dictionaries_from}
 use Rattle.arrow_meta.specs.Footer.{Footer}
@@ -11,7 +13,7 @@ use Rattle.arrow_read.specs.declared.error.OpenError.TheVariants as open_errors
 use Rattle.arrow_read.specs.declared.metas.TextBlock.{TextBlock}
 use Rattle.arrow_read.specs.Extents.{AreWithin, IsWithin}
 use Rattle.arrow_read.specs.Refused.{Opens}
-use Rattle.arrow_read.specs.Metas.{metas_of, texts_of}
+use Rattle.arrow_read.specs.Metas.{each_unless, metas_of, texts_of}
 use Rattle.arrow_read.proofs.MetaLaws.{said_clean, said_same}
 
 -- why a part is refused is why the whole is
@@ -42,6 +44,13 @@ said_compressed false said r h = absurd (cc)
 pub said_refusal : {A : Type 0} (compressed : Bool) (said : A) (r : Refusal) → unless compressed Compressed (Ok said) ≡ Err r → r ≡ Compressed
 said_refusal true said r h = cc
 said_refusal false said r h = absurd (cc)
+
+-- a block that is compressed, among others
+pub each_refused : {A B : Type 0} (compressed : Block → Bool) (said : Block → A) (blocks : List Block) (i : ℕ) (d : Block) (one : B) (r : Refusal) → i < length blocks
+    → unless (compressed (get_or blocks i d)) Compressed (Ok one) ≡ Err r → each_unless compressed said blocks ≡ Err r
+each_refused compressed said blocks i d one r below h =
+    let some = list_any_at compressed blocks i d below (said_compressed (compressed (get_or blocks i d)) one r h) in
+    rw (some, said_refusal (compressed (get_or blocks i d)) one r h) refl
 
 compressed_head : (told : List ℕ) (start : ℕ) (footer : Footer) → footer_place told ≡ Ok start → footer_at told start ≡ Ok footer → has_compression told start footer ≡ true → head_of told ≡ Err Compressed
 unfolding head_of

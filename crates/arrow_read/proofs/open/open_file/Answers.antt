@@ -1,17 +1,36 @@
-use Rattle.std.proofs.Common.{rules, ◌∙◌, List, Vec, Global, Option, Err, sym, ap, subst}
+use Rattle.std.proofs.Common.{rules, ◌∙◌, ℕ, List, Vec, Global, Option, Err, sym, ap, subst}
 use Rattle.arrow_meta.specs.declared.field.FieldMeta.{FieldMeta}
 use Rattle.arrow_meta.specs.declared.meta.Block.{Block}
 use Rattle.arrow_meta.specs.Dictionary.{dictionaries_from}
 use Rattle.arrow_meta.specs.Footer.{Footer}
-use Rattle.arrow_meta.specs.Head.{head_of}
+use Rattle.arrow_meta.specs.Head.{footer_place, footer_at, head_of}
+use Rattle.arrow_meta.specs.Seen.{footer_seen}
 use Rattle.arrow_read.specs.declared.metas.TextBlock.{TextBlock}
 use Rattle.arrow_read.specs.Refused.{Opens}
 use Rattle.arrow_read.specs.Seen.{head_seen}
 use Rattle.arrow_read.specs.Sound.{ArePlaced, AreIndexed}
 use Rattle.arrow_read.specs.Extents.{metas_seen, blocks_seen}
 use Rattle.arrow_read.specs.Metas.{metas_of, texts_of}
-use Rattle.arrow_read.proofs.OpenLaws.{refused_whole, compressed_record, compressed_text, head_is}
+use Rattle.arrow_read.proofs.OpenLaws.{refused_whole, no_place, no_footer, compressed_record, compressed_text, head_is}
 use Rattle.arrow_read.proofs.open.open_file.Goals as goal
+
+pub returns-in_err-start-clause-head : goal.returns-in_err-start-clause-head
+returns-in_err-start-clause-head g c = λ told is.
+    let e = c.in_err-start.field-0.0 in
+    let part = c.in_err-start.ensures.start told (c.in_ok-len.ensures.bytes ∙ is) in
+    let whole : Opens head_seen (Err e) (head_of told) = refused_whole (λ (start : ℕ). start) head_seen (footer_place told) (head_of told) (no_place told) e part in
+    search (rules, whole)
+
+pub returns-in_err-schema-clause-head : goal.returns-in_err-schema-clause-head
+returns-in_err-schema-clause-head g c = λ told is.
+    let start = c.in_ok-start.start in
+    let opened = c.in_ok-len.ensures.bytes ∙ is in
+    let placed = c.in_ok-start.ensures.bytes ∙ opened in
+    let e = c.in_err-schema.field-0.0 in
+    let part = c.in_err-schema.ensures.footer told placed in
+    let whole : Opens head_seen (Err e) (head_of told) =
+    refused_whole footer_seen head_seen (footer_at told start) (head_of told) (λ r h. no_footer told start r (c.in_ok-start.ensures.start told opened) h) e part in
+    search (rules, whole)
 
 pub returns-in_err-metas-clause-head : goal.returns-in_err-metas-clause-head
 returns-in_err-metas-clause-head g c = λ told is.
