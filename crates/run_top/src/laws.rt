@@ -5,5 +5,4 @@ ghost use Rattle.run_top.specs.Answer.{SameRowsSameFile};
 /// and record batches.
 pub fn same_rows_same_file()
     ensures { SameRowsSameFile }
-{
-}
+{}

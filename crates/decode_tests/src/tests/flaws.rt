@@ -1,8 +1,8 @@
 // Plans that can't be read.
+use super::plans::{BROKEN_TEXT, THREE_ROWS, TOO_DEEP};
 use plan_decode::{DecodeError, decode_plan};
 use std::alloc::Global;
 use std::test::Fail;
-use super::plans::{BROKEN_TEXT, THREE_ROWS, TOO_DEEP};
 
 fn is_unreadable(alloc: Global, plan: &[u8], wanted: u64) -> bool {
     match decode_plan(alloc, plan) {

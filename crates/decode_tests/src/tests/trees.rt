@@ -1,6 +1,4 @@
 // Plans that have a tree.
-use plan_decode::decode_plan;
-use std::test::Fail;
 use super::plans::{
     CUT_IN_THREE, DECLARATIONS, DEEP, EMIT, EXISTS, NO_ROWS, READ_FILTER_READ, TEXT, THREE_ROWS,
     THREE_ROWS_IN_TWO, TRUTHS, UNKNOWN_RELATION,
@@ -8,6 +6,8 @@ use super::plans::{
 use super::seen::{
     declares_add, emits, input, is_exists, is_table, is_text, is_truth, is_unknown, reads_column,
 };
+use plan_decode::decode_plan;
+use std::test::Fail;
 
 #[test]
 fn virtual_table_of_three_rows(rt: HostRuntime) -> Result<(), Fail> {
