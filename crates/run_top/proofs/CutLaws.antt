@@ -11,8 +11,8 @@ use Rattle.run_top.specs.declared.status.Status.{Status}
 use Rattle.run_top.specs.declared.status.Status.TheVariants as status
 use Rattle.run_top.specs.Words.{Reading}
 use Rattle.run_top.specs.Steps.{◌>>=◌}
-use Rattle.run_top.specs.Tables.{Table, all_blocks, count_blocks, table_stream, whole}
-use Rattle.run_top.specs.Answer.{MAX_ROWS, SameRowsSameFile, done_of, done_with, out_file}
+use Rattle.run_top.specs.Tables.{all_blocks, count_blocks, table_stream, whole}
+use Rattle.run_top.specs.Answer.{MAX_ROWS, SameRowsSameFile, done_of, done_with}
 
 -- the file of a stream that is read in so many batches
 abbrev file_from : Reading → List (List ℕ) → List Ty → ℕ → Stream (List Value) → Result (List ℕ) Status

@@ -15,7 +15,7 @@ use Rattle.table_open.specs.Files.{TableFile}
 use Rattle.table_rows.specs.Read.{read_row}
 use Rattle.table_rows.specs.Blocks.{file_stream}
 use Rattle.world.specs.Counts.{Rose}
-use Rattle.run_top.specs.Tables.{table_stream, blocks_of, count_blocks}
+use Rattle.run_top.specs.Tables.{table_stream, blocks_of}
 use Rattle.table_rows.specs.declared.error.ReadError.{ReadError}
 use Rattle.run_top.specs.declared.tables.TableEnd.{TableEnd}
 use Rattle.run_top.specs.declared.tables.TableEnd.TheVariants.{Whole}

@@ -4,7 +4,6 @@ use Rattle.std.specs.Option.{ok_or}
 use Rattle.std.specs.FinMap.{get}
 use Rattle.world.specs.Files.{Files, written, IsPartWritten}
 use Rattle.sub_types.specs.declared.kind.Ty.{Ty}
-use Rattle.sub_types.specs.declared.value.Value.{Value}
 use Rattle.sub_types.specs.declared.fault.FaultKind.TheVariants as kinds
 use Rattle.arrow_meta.specs.File.{file_of}
 use Rattle.run_core.specs.Receipts.{IsBalanced, lists_of}
@@ -12,7 +11,7 @@ use Rattle.plan_scan.specs.declared.flaw.Flaw.{Flaw}
 use Rattle.plan_scan.specs.declared.flaw.Flaw.TheVariants as flaws
 use Rattle.plan_raw.specs.declared.plan.PlanTree.{PlanTree}
 use Rattle.plan_parts.specs.Reader.{plan_of}
-use Rattle.plan_form.specs.Form.{Form, Source, Named, Rows, form_of}
+use Rattle.plan_form.specs.Form.{Form, Named, Rows, form_of}
 use Rattle.run_top.specs.declared.status.Status.{Status}
 use Rattle.run_top.specs.declared.status.Status.TheVariants as status
 use Rattle.run_top.specs.declared.status.Rule.TheVariants as rules

@@ -1,4 +1,4 @@
-use Rattle.std.proofs.Common.{◌≡◌, ◌∙◌, sym, ap, [], ◌∷◌, ◌++◌}
+use Rattle.std.proofs.Common.{◌∙◌, sym, ap, [], ◌∷◌, ◌++◌}
 use Rattle.run_top.proofs.AloneLaws.{range_more}
 use Rattle.run_top.proofs.receipts.worked.Goals as goal
 

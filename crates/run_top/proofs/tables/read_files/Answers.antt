@@ -1,4 +1,4 @@
-use Rattle.std.proofs.Common.{◌≡◌, ◌∙◌, sym, subst, refl, map, IsSome, All, arith, rules, inl, inr}
+use Rattle.std.proofs.Common.{◌∙◌, sym, subst, refl, map, IsSome, All, arith, rules, inl, inr}
 use Rattle.std.proofs.lemmas.List.Elements.{All-head, All-rest}
 use Rattle.std.specs.Vec.Iter.{into_iter_items}
 use Rattle.table_open.specs.Ready.{file_seen, IsReady}

@@ -1,4 +1,4 @@
-use Rattle.std.proofs.Common.{◌≡◌, sym, subst, List, [], ◌∷◌, ◌++◌}
+use Rattle.std.proofs.Common.{sym, subst, [], ◌∷◌, ◌++◌}
 use Rattle.table_open.specs.Ready.{file_seen}
 use Rattle.run_top.specs.TableRead.{HasRead}
 use Rattle.run_top.proofs.TableLaws.{file_read_as, ended_more}
