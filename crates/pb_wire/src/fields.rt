@@ -32,6 +32,7 @@ impl<'a> Fields<'a> {
     ghost use Rattle.pb_wire.specs.Seen.{IsNext, IsFirst, IsFirstField, IsBehind, block_len};
 
     /// The records of a message, from the first on.
+    #[inline(always)]
     pub fn new(bytes: &'a [u8]) -> Fields<'a>
         ensures { result ≡ record { place = 0; bytes = bytes.entry.now } }
     {
@@ -39,6 +40,7 @@ impl<'a> Fields<'a> {
     }
 
     /// The place that the reader has come to, in the bytes that it was made with.
+    #[inline(always)]
     pub fn place(&self) -> usize
         ensures { result ≡ self.now.place }
     {
@@ -46,6 +48,7 @@ impl<'a> Fields<'a> {
     }
 
     /// The bytes from the place on that the reader has come to.
+    #[inline(always)]
     pub fn rest(&self) -> &'a [u8]
         ensures { result.now ≡ self.now.bytes }
     {
@@ -54,6 +57,7 @@ impl<'a> Fields<'a> {
     }
 
     /// The next record; `Err` with the place where no record stands, and then always the same; `None` at the end.
+    #[inline(always)]
     #[tactic(auto, using(crate::proofs::ScanLaws::first_of_next, crate::proofs::FieldLaws::first_field_of_next, crate::proofs::ScanLaws::behind_of_next))]
     pub fn next(&mut self) -> Option<Result<Record<'a>, usize>>
         ensures next { IsNext self.old self.new result }
@@ -71,6 +75,7 @@ impl<'a> Fields<'a> {
         self.step()
     }
 
+    #[inline(always)]
     fn step(&mut self) -> Option<Result<Record<'a>, usize>>
         ensures next { IsNext self.old self.new result }
         ensures moved { IfSome result (λ next. OnOk next (length self.new.bytes < length self.old.bytes)) }
@@ -90,6 +95,7 @@ impl<'a> Fields<'a> {
 }
 
 // The record that begins the bytes, which stand at this place, and how many bytes it takes.
+#[inline(always)]
 #[tactic(auto, unfolding(crate::specs::Records::stands))]
 fn record_at<'a>(bytes: &'a [u8], place: usize) -> Option<(Record<'a>, usize)>
     ensures stands { option_map (λ found. entry_of found.0 found.1) result ≡ stands bytes.entry.now }
@@ -112,6 +118,7 @@ fn record_at<'a>(bytes: &'a [u8], place: usize) -> Option<(Record<'a>, usize)>
 }
 
 // The payload of this wire type that begins the bytes, and its length.
+#[inline(always)]
 fn payload<'a>(wire: u64, bytes: &'a [u8]) -> Option<(Payload<'a>, usize)>
     ensures payload { option_map (λ found. (content_of found.0, found.1)) result ≡ payload_of wire bytes.entry.now }
     ensures len { IfSome result (λ found. (block_len found.0 ≤ found.1) × (found.1 ≤ length bytes.entry.now)) }
@@ -153,6 +160,7 @@ fn four<'a>(bytes: &'a [u8]) -> Option<(Payload<'a>, usize)>
 }
 
 // A length and that many bytes.
+#[inline(always)]
 fn block<'a>(bytes: &'a [u8]) -> Option<(Payload<'a>, usize)>
     ensures payload { option_map (λ found. (content_of found.0, found.1)) result ≡ block_of bytes.entry.now }
     ensures len { IfSome result (λ found. (block_len found.0 ≤ found.1) × (found.1 ≤ length bytes.entry.now)) }

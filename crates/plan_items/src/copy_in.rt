@@ -5,7 +5,7 @@ use crate::{Boxed, Items};
 use std::alloc::Global;
 use sub_types::{ByteList, NoMemory, Ty, Value, Word};
 
-/// What can be copy_in into memory of its own.
+/// What can be copied into memory of its own.
 pub trait CopyIn: Sized + Drop {
     /// An equal value.
     fn copy_in(&self, alloc: Global) -> Result<Self, NoMemory>

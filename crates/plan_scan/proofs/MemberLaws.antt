@@ -9,7 +9,7 @@ use Rattle.plan_scan.specs.declared.shape.Shape.{Shape}
 use Rattle.plan_scan.specs.declared.shape.Use.TheVariants.{Message}
 use Rattle.plan_scan.specs.declared.oneof.OneOf.{OneOf}
 use Rattle.plan_scan.specs.Table.{use_of, HoldsMessage}
-use Rattle.plan_scan.specs.Member.{last_number, is_member, owner, has_number, has_wire_type, is_block}
+use Rattle.plan_scan.specs.Member.{is_last, is_member, owner, has_number, has_wire_type, is_block}
 
 -- the number of the last member of those that are left, or else the one so far
 abbrev pub last_from : Option ℕ → (Field → Bool) → List Field → Option ℕ
@@ -24,9 +24,6 @@ last_skipped is_member before field fields e = ap (λ b. last_or before (map (λ
 number_of_last : (before : Option Field) (fields : List Field) → option_map (λ field. field.number) (last_or before fields) ≡ last_or (option_map (λ field. field.number) before) (map (λ field. field.number) fields)
 number_of_last before [] = refl
 number_of_last before (field ∷ fields) = number_of_last (Some field) fields
-
-pub last_number_is : (is_member : Field → Bool) (fields : List Field) → last_number is_member fields ≡ last_from None is_member fields
-last_number_is is_member fields = number_of_last None (filter is_member fields)
 
 -- what stands behind the last of those that are left that passes, or else what stands behind the last so far
 abbrev pub since_or : (Field → Bool) → List Field → List Field → List Field
@@ -51,6 +48,81 @@ since_skipped test since field fields e =
     chosen : (b : Bool) → cond b (cond b (behind_last test fields) (field ∷ fields)) since ≡ cond b (behind_last test fields) since
     chosen true = refl
     chosen false = refl
+
+-- the records from which the member of this number is read, where it is the last: those since the last record of any other
+-- member that is left, or else, by whether it was the last so far, those since another member or those behind all members
+abbrev pub records_from : (Field → Bool) → Option ℕ → List Field → List Field → List Field → ℕ → List Field
+records_from is_member last since behind fields number = since_or (is_other is_member number) (cond (is_last last number) since behind) fields
+
+abbrev pub won_from : (Field → Bool) → Option ℕ → List Field → List Field → List Field → ℕ → Member
+won_from is_member last since behind fields number = record { number = number; records = records_from is_member last since behind fields number }
+
+-- the winner, by the number of the last member so far, the records since any other one, those behind it, and those that are left
+abbrev pub winner_from : (Field → Bool) → Option ℕ → List Field → List Field → List Field → Option Member
+winner_from is_member last since behind fields = option_map (won_from is_member last since behind fields) (last_from last is_member fields)
+
+-- winners with the same number, whose records are the same for each number
+same_winner : (last last' : Option ℕ) (won won' : ℕ → Member) → last ≡ last' → ((number : ℕ) → won number ≡ won' number) → option_map won last ≡ option_map won' last'
+same_winner last last' won won' e same = ap (option_map won) e ∙ each last'
+  where
+    each : (o : Option ℕ) → option_map won o ≡ option_map won' o
+    each None = refl
+    each (Some number) = ap Some (same number)
+
+pub winner_start : (is_member : Field → Bool) (fields : List Field) → winner_from is_member None fields fields fields ≡ chosen_member is_member fields
+winner_start is_member fields = ap (option_map (won_from is_member None fields fields fields)) (sym (number_of_last None (filter is_member fields))) ∙ each (last_or None (filter is_member fields))
+  where
+    each : (o : Option Field) → option_map (won_from is_member None fields fields fields) (option_map (λ field. field.number) o) ≡ option_map (λ last. record { number = last.number; records = behind_last (is_other is_member last.number) fields }) o
+    each None = refl
+    each (Some last) = ap (λ records. Some (record { number = last.number; records = records })) (since_start (is_other is_member last.number) fields)
+
+-- a record of no member
+pub winner_skipped : (is_member : Field → Bool) (last : Option ℕ) (since behind : List Field) (field : Field) (fields : List Field) → is_member field ≡ false → winner_from is_member last since behind (field ∷ fields) ≡ winner_from is_member last since behind fields
+winner_skipped is_member last since behind field fields e =
+    same_winner _ _ (won_from is_member last since behind (field ∷ fields)) (won_from is_member last since behind fields) (last_skipped is_member last field fields e)
+    (λ number. ap (λ records. record { number = number; records = records }) (since_skipped (is_other is_member number) (cond (is_last last number) since behind) field fields (ap (λ b. b && not (field.number == number)) e)))
+
+-- after a record of a member, where the records are the same for its own number
+after_member : (is_member : Field → Bool) (last : Option ℕ) (since behind kept : List Field) (field : Field) (fields : List Field) → is_member field ≡ true → cond (is_last last field.number) since behind ≡ kept → winner_from is_member last since behind (field ∷ fields) ≡ winner_from is_member (Some field.number) kept fields fields
+after_member is_member last since behind kept field fields e keeps =
+    same_winner _ _ (won_from is_member last since behind (field ∷ fields)) (won_from is_member (Some field.number) kept fields fields) (last_member is_member last field fields e)
+    (λ number. ap (λ records. record { number = number; records = records }) (same number))
+  where
+    same : (number : ℕ) → records_from is_member last since behind (field ∷ fields) number ≡ records_from is_member (Some field.number) kept fields fields number
+    same number =
+        (elim (field.number == number) as (λ b. (field.number == number) ≡ b → records_from is_member last since behind (field ∷ fields) number ≡ since_or (is_other is_member number) (cond b kept fields) fields) [
+          | true ↦ λ is.
+              let here : field.number ≡ number = eqb-true field.number number is in
+              since_skipped (is_other is_member number) (cond (is_last last number) since behind) field fields (ap (λ b. is_member field && not b) is ∙ ap (λ b. b && false) e)
+              ∙ ap (λ s. since_or (is_other is_member number) s fields) (ap (λ n. cond (is_last last n) since behind) (sym here) ∙ keeps)
+          | false ↦ λ other. since_passed (is_other is_member number) (cond (is_last last number) since behind) field fields (and_from (is_member field) (not (field.number == number)) e (ap not other))
+        ]) refl
+
+-- a record of the last member so far
+pub winner_again : (is_member : Field → Bool) (last : Option ℕ) (since behind : List Field) (field : Field) (fields : List Field) → is_member field ≡ true → is_last last field.number ≡ true → winner_from is_member last since behind (field ∷ fields) ≡ winner_from is_member (Some field.number) since fields fields
+winner_again is_member last since behind field fields e is = after_member is_member last since behind since field fields e (ap (λ b. cond b since behind) is)
+
+-- a record of another member than the last so far
+pub winner_changed : (is_member : Field → Bool) (last : Option ℕ) (since behind : List Field) (field : Field) (fields : List Field) → is_member field ≡ true → is_last last field.number ≡ false → winner_from is_member last since behind (field ∷ fields) ≡ winner_from is_member (Some field.number) behind fields fields
+winner_changed is_member last since behind field fields e other = after_member is_member last since behind behind field fields e (ap (λ b. cond b since behind) other)
+
+-- nothing is left
+pub winner_end : (is_member : Field → Bool) (number : ℕ) (since behind : List Field) → winner_from is_member (Some number) since behind [] ≡ Some (record { number = number; records = since })
+winner_end is_member number since behind = ap (λ b. Some (record { number = number; records = cond b since behind })) (eq-eqb number number refl)
+
+-- the records of the winner are those since the last of any other member
+pub winner_records : (is_member : Field → Bool) (fields : List Field) (won : Member) → chosen_member is_member fields ≡ Some won → won.records ≡ behind_last (is_other is_member won.number) fields
+winner_records is_member fields won chosen =
+    (elim (last_or None (filter is_member fields)) as (λ last. option_map won_by last ≡ Some won → won.records ≡ behind_last (is_other is_member won.number) fields) [
+      | None ↦ λ h. cc
+      | Some last ↦ λ h.
+          let same : won_by last ≡ won = cc in
+          let P : Member → Type 0 = λ m. m.records ≡ behind_last (is_other is_member m.number) fields in
+          subst P same refl
+    ]) chosen
+  where
+    won_by : Field → Member
+    won_by last = record { number = last.number; records = behind_last (is_other is_member last.number) fields }
 
 -- a record of the member of this number
 abbrev pub is_winner : (Field → Bool) → ℕ → Field → Bool

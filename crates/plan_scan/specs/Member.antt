@@ -1,7 +1,5 @@
 -- The members of the oneofs of a plan's messages.
-use Rattle.std.specs.Prelude.{ℕ, List, Bool, true, false, Option, None, ◌&&◌, ◌||◌, not, ◌==◌, filter}
-use Rattle.std.specs.List.{last_or}
-use Rattle.std.specs.Option.{option_map}
+use Rattle.std.specs.Prelude.{ℕ, Bool, true, false, Option, Some, None, ◌&&◌, ◌||◌, not, ◌==◌}
 use Rattle.pb_wire.specs.Records.{Content, Varint, Eight, Bytes, Four}
 use Rattle.pb_wire.specs.Payloads.{Field}
 use Rattle.plan_scan.specs.declared.shape.Shape.{Shape}
@@ -67,6 +65,7 @@ has_wire_type (uses.Message shape) content = is_block content
 abbrev pub is_member : OneOf → Field → Bool
 is_member oneof field = has_number oneof field.number && has_wire_type (use_of (owner oneof) field.number) field.content
 
--- the number of the last of the members
-abbrev pub last_number : (Field → Bool) → List Field → Option ℕ
-last_number is_member fields = option_map (λ field. field.number) (last_or None (filter is_member fields))
+-- the last member so far has this number
+abbrev pub is_last : Option ℕ → ℕ → Bool
+is_last None number = false
+is_last (Some last) number = last == number

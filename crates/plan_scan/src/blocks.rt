@@ -33,6 +33,7 @@ impl<'m, 'a> Blocks<'m, 'a> {
     }
 
     /// The next payload, or `None` at the end.
+    #[inline(always)]
     pub(crate) fn next(&mut self) -> Option<&'a [u8]>
         ensures given { self.old ≡ option_to_list (option_copied result) ++ self.new }
         ensures none { IsNone result → self.old ≡ [] }

@@ -1,5 +1,6 @@
 // The messages of a readable plan.
 ghost use Rattle.std.specs.Prelude.{◌≡◌};
+ghost use Rattle.plan_scan.specs.Member.{is_last};
 
 use crate::blocks::Blocks;
 use crate::children::Children;
@@ -39,12 +40,12 @@ impl<'a> Message<'a> {
     ghost use Rattle.std.specs.Prelude.{◌≡◌, ◌+◌, suc, ◌∷◌, true, None, Some, IfOk, IfErr, IfSome};
     ghost use Rattle.std.specs.List.{concat, list_all};
     ghost use Rattle.std.specs.Option.{option_map};
-    ghost use Rattle.pb_wire.specs.Payloads.{fields_of, blocks, merged_message, chosen_member, behind_last, is_other};
+    ghost use Rattle.pb_wire.specs.Payloads.{fields_of, blocks, merged_message, chosen_member};
     ghost use Rattle.plan_scan.specs.Scanned.{is_readable};
     ghost use Rattle.plan_scan.specs.Pieces.{pieces_of};
     ghost use Rattle.plan_scan.specs.Table.{HoldsMessage};
     ghost use Rattle.plan_scan.specs.Flaw.{flaw};
-    ghost use Rattle.plan_scan.specs.Member.{is_member, last_number};
+    ghost use Rattle.plan_scan.specs.Member.{is_member};
 
     /// The plan, or the first flaw of its bytes.
     pub fn plan(alloc: Global, bytes: &'a [u8]) -> Result<Message<'a>, Flaw>
@@ -138,39 +139,44 @@ impl<'a> Message<'a> {
         ensures shape { IfOk result (λ found. IfSome found (λ won. won.1.shape ≡ self.now.shape)) }
         ensures below { IfOk result (λ found. IfSome found (λ won. won.1.below ≡ self.now.below)) }
     {
-        let Some(number) = self.last_member(oneof) else {
+        let Some((number, since)) = self.winner(oneof) else {
             return Ok(None);
         };
-        let (first, more) = self.since_others(oneof, number).pieces(alloc)?;
+        let (first, more) = since.pieces(alloc)?;
         let won = Message::of_pieces(self.shape, self.below, first, more);
         Ok(Some((number, won)))
     }
 
-    // The number of the last member of a oneof.
-    fn last_member(&self, oneof: OneOf) -> Option<u32>
-        ensures { result ≡ last_number (is_member oneof) (fields_of self.now.bytes) }
+    // The number of the last member of a oneof, and the records since the last record of any other member, in one pass.
+    fn winner(&self, oneof: OneOf) -> Option<(u32, Records<'_, 'a>)>
+        ensures { option_map (λ won. record { number = won.0; records = fields_of won.1 }) result ≡ chosen_member (is_member oneof) (fields_of self.now.bytes) }
     {
         let mut last = None;
+        let mut since = self.records();
+        let mut behind = self.records();
         let mut records = self.records();
         while let Some(found) = records.next() {
             if oneof.has_member(&found) {
+                if !is_number(last, found.number) {
+                    since = behind.again();
+                }
                 last = Some(found.number);
+                behind = records.again();
             }
         }
-        last
+        match last {
+            Some(number) => Some((number, since)),
+            None => None,
+        }
     }
+}
 
-    // The records since the last record of any member of a oneof but the one of this number.
-    fn since_others(&self, oneof: OneOf, number: u32) -> Records<'_, 'a>
-        ensures { fields_of result ≡ behind_last (is_other (is_member oneof) number) (fields_of self.now.bytes) }
-    {
-        let mut since = self.records();
-        let mut records = self.records();
-        while let Some(found) = records.next() {
-            if oneof.has_member(&found) && found.number != number {
-                since = records.again();
-            }
-        }
-        since
+// Whether it is this number.
+fn is_number(last: Option<u32>, number: u32) -> bool
+    ensures { result ≡ is_last last number }
+{
+    match last {
+        Some(found) => found == number,
+        None => false,
     }
 }

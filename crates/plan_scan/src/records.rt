@@ -48,6 +48,7 @@ impl<'m, 'a> Records<'m, 'a> {
     }
 
     /// The next record, or `None` at the end.
+    #[inline(always)]
     pub(crate) fn next(&mut self) -> Option<Record<'a>>
         ensures first { IsFirstRecord self.old self.new result }
         ensures moved { OnSome result (length self.new < length self.old) }
@@ -71,6 +72,7 @@ impl<'m, 'a> Records<'m, 'a> {
     }
 
     /// The same records again, from here on.
+    #[inline(always)]
     pub(crate) fn again(&self) -> Records<'m, 'a>
         ensures { result ≡ self.now }
     {
@@ -92,6 +94,7 @@ impl<'m, 'a> Records<'m, 'a> {
 }
 
 /// The number of a record of this field, where it is a varint.
+#[inline(always)]
 pub(crate) fn varint_of(found: &Record<'_>, number: u32) -> Option<u64>
     ensures { result ≡ varint_in number (field_seen found.now) }
 {
@@ -108,6 +111,7 @@ pub(crate) fn varint_of(found: &Record<'_>, number: u32) -> Option<u64>
 }
 
 /// The payload of a record of this field, where it is a block.
+#[inline(always)]
 pub(crate) fn block_of<'a>(found: &Record<'a>, number: u32) -> Option<&'a [u8]>
     ensures { option_copied result ≡ block_in number (field_seen found.now) }
 {

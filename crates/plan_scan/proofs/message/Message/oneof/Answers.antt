@@ -5,6 +5,7 @@ use Rattle.plan_scan.specs.Scanned.{Scanned, is_readable, field_well}
 use Rattle.plan_scan.specs.Member.{is_member}
 use Rattle.plan_scan.specs.Pieces.{pieces_of}
 use Rattle.plan_scan.proofs.PieceLaws.{IsReadable, readable_message, all_well, all_behind, well_pieces}
+use Rattle.plan_scan.proofs.MemberLaws.{winner_records}
 use Rattle.plan_scan.proofs.message.Message.oneof.Goals as goal
 
 pub of_pieces-won-requires : goal.of_pieces-won-requires
@@ -12,7 +13,7 @@ of_pieces-won-requires c =
     let message : IsReadable c.args.self.now = readable_message c.self.inside.shape c.self.inside.below (c.self.inside.first.now ∷ pieces_of c.self.inside.more.items) c.args.self.now c.self.view_is c.self.invariant in
     let pieces : List (List ℕ) = c.in_ok-first.first.now ∷ pieces_of c.in_ok-first.more.items in
     let test = is_other (is_member c.args.oneof) c.in-Some.number in
-    let since : fields_of (concat pieces) ≡ behind_last test (fields_of c.args.self.now.bytes) = ap fields_of c.in_ok-first.ensures.bytes ∙ c.since_others.ensures in
+    let since : fields_of (concat pieces) ≡ behind_last test (fields_of c.args.self.now.bytes) = ap fields_of c.in_ok-first.ensures.bytes ∙ winner_records (is_member c.args.oneof) (fields_of c.args.self.now.bytes) (record { number = c.in-Some.number; records = fields_of c.in-Some.since }) (sym c.in-Some.ensures) in
     let well : all_well c.args.self.now.below c.args.self.now.shape (fields_of (concat pieces)) ≡ true =
     ap (all_well c.args.self.now.below c.args.self.now.shape) since
     ∙ all_behind (field_well (is_readable c.args.self.now.below) c.args.self.now.shape) test (fields_of c.args.self.now.bytes) message.fields in

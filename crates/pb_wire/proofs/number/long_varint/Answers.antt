@@ -1,6 +1,6 @@
 use Rattle.std.proofs.Common.{◌<◌, ◌*◌, ◌+◌, sym, refl, arith, get_or, subst, ℕ}
 use Rattle.pb_wire.proofs.VarintLaws.{IsPartRead, nothing_read, read_more, read_last, read_tenth, none_tenth, none_cut, next_scale, next_value, tenth_value}
-use Rattle.pb_wire.proofs.number.varint.Goals as goal
+use Rattle.pb_wire.proofs.number.long_varint.Goals as goal
 
 pub loop-i-init : goal.loop-i-init
 loop-i-init c = nothing_read c.args.bytes.now
