@@ -211,7 +211,7 @@ fn relation_of(rt: &HostRuntime, bytes: &[u8]) -> Result<(u32, usize), Fail> {
 
 #[test]
 fn the_second_read_alone(rt: HostRuntime) -> Result<(), Fail> {
-    let plans: [(&[u8], (u32, usize)); 4] = [
+    let plans: [(&[u8], (u32, usize)); 5] = [
         (&THREE_ROWS, (1, 1)),
         // A read of the names `a` and `b`, a filter, and a read of the name `c`.
         (
@@ -228,6 +228,15 @@ fn the_second_read_alone(rt: HostRuntime) -> Result<(), Fail> {
                 0x01, 0x62, 0x0A, 0x05, 0x12, 0x03, 0x0A, 0x01, 0x63,
             ],
             (1, 3),
+        ),
+        // Reads of `a` and of `b`, a filter behind the one and a fetch behind the other, and reads of `c` and of `d`.
+        (
+            &[
+                0x1A, 0x24, 0x12, 0x22, 0x0A, 0x20, 0x0A, 0x05, 0x12, 0x03, 0x0A, 0x01, 0x61, 0x12,
+                0x00, 0x0A, 0x05, 0x12, 0x03, 0x0A, 0x01, 0x62, 0x1A, 0x00, 0x0A, 0x05, 0x12, 0x03,
+                0x0A, 0x01, 0x63, 0x0A, 0x05, 0x12, 0x03, 0x0A, 0x01, 0x64,
+            ],
+            (1, 2),
         ),
         // A read, and a member 13 that isn't known.
         (
