@@ -1,9 +1,10 @@
 -- What the words of a command line mean.
 use Rattle.std.specs.Prelude.{◌≡◌, ◌≤◌, ℕ, List, [], ◌∷◌, Bool, Option, Some, None, if◌then◌else◌, ◌&&◌, not, ◌==◌, nat_le, length, codes, decimal}
-use Rattle.std.specs.List.{list_all, before_first, after_first}
+use Rattle.std.specs.List.{list_all}
 use Rattle.std.specs.Option.{option_map}
 use Rattle.std.specs.Str.{bytes_eq}
 use Rattle.std.specs.Str.Parse.{digits_value}
+use Rattle.table_open.specs.Words.{name_in, file_in}
 
 -- the word is the decimal digits of the number, which is from 1 to `most`
 abbrev pub IsNumber : List ℕ → ℕ → ℕ → Type 0
@@ -14,17 +15,6 @@ unfoldable pub number_within : ℕ → List ℕ → Option ℕ
 number_within most word =
     let n = digits_value 10 word in
     if bytes_eq (decimal n) word && nat_le 1 n && nat_le n most then Some n else None
-
--- the byte is an equals sign
-abbrev pub is_equals : ℕ → Bool
-is_equals byte = byte == 61
-
--- the name of a binding, before its first equals sign, and its file, after it
-abbrev pub name_in : List ℕ → List ℕ
-name_in word = before_first is_equals word
-
-abbrev pub file_in : List ℕ → List ℕ
-file_in word = after_first is_equals word
 
 -- the most bindings
 abbrev pub MAX_BINDINGS : ℕ
