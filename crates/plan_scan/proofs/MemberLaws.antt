@@ -18,9 +18,6 @@ last_from before is_member fields = last_or before (map (λ field. field.number)
 pub last_member : (is_member : Field → Bool) (before : Option ℕ) (field : Field) (fields : List Field) → is_member field ≡ true → last_from before is_member (field ∷ fields) ≡ last_from (Some field.number) is_member fields
 last_member is_member before field fields e = ap (λ b. last_or before (map (λ f. f.number) (cond b (field ∷ filter is_member fields) (filter is_member fields)))) e
 
-pub last_skipped : (is_member : Field → Bool) (before : Option ℕ) (field : Field) (fields : List Field) → is_member field ≡ false → last_from before is_member (field ∷ fields) ≡ last_from before is_member fields
-last_skipped is_member before field fields e = ap (λ b. last_or before (map (λ f. f.number) (cond b (field ∷ filter is_member fields) (filter is_member fields)))) e
-
 number_of_last : (before : Option Field) (fields : List Field) → option_map (λ field. field.number) (last_or before fields) ≡ last_or (option_map (λ field. field.number) before) (map (λ field. field.number) fields)
 number_of_last before [] = refl
 number_of_last before (field ∷ fields) = number_of_last (Some field) fields
@@ -75,12 +72,6 @@ winner_start is_member fields = ap (option_map (won_from is_member None fields f
     each : (o : Option Field) → option_map (won_from is_member None fields fields fields) (option_map (λ field. field.number) o) ≡ option_map (λ last. record { number = last.number; records = behind_last (is_other is_member last.number) fields }) o
     each None = refl
     each (Some last) = ap (λ records. Some (record { number = last.number; records = records })) (since_start (is_other is_member last.number) fields)
-
--- a record of no member
-pub winner_skipped : (is_member : Field → Bool) (last : Option ℕ) (since behind : List Field) (field : Field) (fields : List Field) → is_member field ≡ false → winner_from is_member last since behind (field ∷ fields) ≡ winner_from is_member last since behind fields
-winner_skipped is_member last since behind field fields e =
-    same_winner _ _ (won_from is_member last since behind (field ∷ fields)) (won_from is_member last since behind fields) (last_skipped is_member last field fields e)
-    (λ number. ap (λ records. record { number = number; records = records }) (since_skipped (is_other is_member number) (cond (is_last last number) since behind) field fields (ap (λ b. b && not (field.number == number)) e)))
 
 -- after a record of a member, where the records are the same for its own number
 after_member : (is_member : Field → Bool) (last : Option ℕ) (since behind kept : List Field) (field : Field) (fields : List Field) → is_member field ≡ true → cond (is_last last field.number) since behind ≡ kept → winner_from is_member last since behind (field ∷ fields) ≡ winner_from is_member (Some field.number) kept fields fields
