@@ -69,6 +69,6 @@ pub fn decode_plan(alloc: Global, bytes: &[u8]) -> Result<PlanTree, DecodeError>
     ensures unreadable { (place : ℕ) → result ≡ Err (DecodeError.Unreadable place) → plan_of bytes.now ≡ Err (flaws.Unreadable place) }
     ensures too_deep { (place : ℕ) → result ≡ Err (DecodeError.TooDeep place) → plan_of bytes.now ≡ Err (flaws.TooDeep place) }
 {
-    let message = Message::plan(alloc, bytes)?;
+    let message = Message::plan(bytes)?;
     Ok(plan(alloc, &message)?)
 }

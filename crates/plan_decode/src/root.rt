@@ -5,10 +5,10 @@ ghost use Rattle.plan_parts.specs.Shapes.{child, children};
 ghost use Rattle.plan_parts.specs.Rels as rels;
 ghost use Rattle.plan_parts.specs.Reader.{reader};
 
-use crate::at::rel_at;
-use plan_items::{Items, zip};
+use crate::knot::relation;
+use plan_leaves::{Boxed, Items, zip};
 use plan_parts::{functions_at, uris_at};
-use plan_raw::{PlanTree, RootDecl};
+use plan_raw::{PlanTree, RawRel, RootDecl};
 use plan_scan::{Message, OneOf, Shape};
 use std::alloc::Global;
 use sub_types::NoMemory;
@@ -31,7 +31,7 @@ fn roots(alloc: Global, message: &Message<'_>) -> Result<Items<RootDecl>, NoMemo
 {
     let mut roots = Vec::new(alloc);
     let mut left = message.children(3, Shape::PlanRel);
-    while let Some(found) = left.next(alloc) {
+    while let Some(found) = left.next() {
         roots.push(plan_rel(alloc, &found)?)?;
     }
     Ok(Items::from_vec(roots))
@@ -41,7 +41,7 @@ fn plan_rel(alloc: Global, message: &Message<'_>) -> Result<RootDecl, NoMemory>
     requires { message.now.shape ≡ Shape.PlanRel }
     ensures { IfOk result (λ root. root ≡ rels.plan_rel_by (reader message.now.below) (fields_of message.now.bytes)) }
 {
-    match message.oneof(alloc, OneOf::PlanRelType)? {
+    match message.oneof(OneOf::PlanRelType) {
         None => Ok(no_root(alloc)),
         Some((number, won)) => member(alloc, number, &won),
     }
@@ -64,9 +64,9 @@ fn rel_root_at(alloc: Global, won: &Message<'_>) -> Result<Option<RootDecl>, NoM
     requires { won.now.shape ≡ Shape.PlanRel }
     ensures { IfOk result (λ root. root ≡ child (reader won.now.below) Shape.RelRoot 2 (fields_of won.now.bytes)) }
 {
-    match won.message(alloc, 2, Shape::RelRoot)? {
+    match won.merged(alloc, 2, Shape::RelRoot)? {
         None => Ok(None),
-        Some(found) => Ok(Some(rel_root(alloc, &found)?)),
+        Some(found) => Ok(Some(rel_root(alloc, &found.message())?)),
     }
 }
 
@@ -85,10 +85,21 @@ fn rel_root(alloc: Global, message: &Message<'_>) -> Result<RootDecl, NoMemory>
     requires { message.now.shape ≡ Shape.RelRoot }
     ensures { IfOk result (λ root. root ≡ rels.root_by (reader message.now.below) (fields_of message.now.bytes)) }
 {
-    let (input, names) = zip(rel_at(alloc, message, 1), message.texts(alloc, 2))?;
+    let (input, names) = zip(input_at(alloc, message), message.texts(alloc, 2))?;
     Ok(RootDecl {
         is_root: true,
         input,
         names: Items::from_vec(names),
     })
+}
+
+// The relation of a root.
+fn input_at(alloc: Global, message: &Message<'_>) -> Result<Option<Boxed<RawRel>>, NoMemory>
+    requires { message.now.shape ≡ Shape.RelRoot }
+    ensures { IfOk result (λ input. input ≡ child (reader message.now.below) Shape.Rel 1 (fields_of message.now.bytes)) }
+{
+    match message.merged(alloc, 1, Shape::Rel)? {
+        None => Ok(None),
+        Some(found) => Ok(Some(Boxed::new(alloc, relation(alloc, &found.message())?)?)),
+    }
 }

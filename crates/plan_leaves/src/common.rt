@@ -1,5 +1,5 @@
 // What each relation has (Substrait `RelCommon`).
-use plan_items::{CopyIn, Items};
+use crate::{CopyIn, Items};
 use std::alloc::Global;
 use sub_types::NoMemory;
 

@@ -1,5 +1,5 @@
 // The functions that a plan declares (Substrait `SimpleExtensionURI` and `SimpleExtensionDeclaration`).
-use plan_items::CopyIn;
+use crate::CopyIn;
 use std::alloc::Global;
 use sub_types::{ByteList, NoMemory};
 

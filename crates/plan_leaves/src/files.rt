@@ -1,5 +1,5 @@
 // Which files are read (Substrait `ReadRel.LocalFiles`).
-use plan_items::{CopyIn, Items};
+use crate::{CopyIn, Items};
 use std::alloc::Global;
 use sub_types::{ByteList, NoMemory};
 

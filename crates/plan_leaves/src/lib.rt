@@ -1,9 +1,15 @@
-//! The parts of a plan's untyped tree that hold no relation and no expression, with copies of them.
+//! The parts of a plan's untyped tree that hold no relation and no expression, with copies of them, and what all parts of a
+//! plan's trees are made of: a `Vec` and a `Box` that contracts see as what they hold, so that a tree of them is plain data and
+//! a copy of it equals it.
 #![tactic(auto)]
 
+mod both;
+mod boxed;
 mod common;
+mod copy_in;
 mod extensions;
 mod files;
+mod items;
 mod literal;
 mod mask;
 mod options;
@@ -11,9 +17,13 @@ mod reference;
 mod schema;
 mod types;
 
+pub use both::zip;
+pub use boxed::Boxed;
 pub use common::RelCommon;
+pub use copy_in::CopyIn;
 pub use extensions::{FunDecl, UriDecl};
 pub use files::{FileItem, ItemPath, LocalFiles};
+pub use items::Items;
 pub use literal::{LiteralRow, RawLiteral};
 pub use mask::{MaskExpression, MaskItem, MaskStruct};
 pub use options::FunctionOption;

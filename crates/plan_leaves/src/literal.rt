@@ -1,6 +1,5 @@
 // Literals as they are written (Substrait `Expression.Literal`).
-use crate::RawType;
-use plan_items::{CopyIn, Items};
+use crate::{CopyIn, Items, RawType};
 use std::alloc::Global;
 use sub_types::{ByteList, NoMemory, Word};
 

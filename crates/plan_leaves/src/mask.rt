@@ -1,5 +1,5 @@
 // Which columns are read (Substrait `Expression.MaskExpression`).
-use plan_items::{CopyIn, Items};
+use crate::{CopyIn, Items};
 use std::alloc::Global;
 use sub_types::NoMemory;
 

@@ -1,5 +1,5 @@
 // Options of function calls (Substrait `FunctionOption`).
-use plan_items::{CopyIn, Items};
+use crate::{CopyIn, Items};
 use std::alloc::Global;
 use sub_types::{ByteList, NoMemory};
 

@@ -1,6 +1,5 @@
 // What a table is called and what its columns are (Substrait `NamedTable` and `NamedStruct`).
-use crate::StructType;
-use plan_items::{CopyIn, Items, zip};
+use crate::{CopyIn, Items, StructType, zip};
 use std::alloc::Global;
 use sub_types::{ByteList, NoMemory};
 

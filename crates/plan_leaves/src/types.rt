@@ -1,7 +1,7 @@
 // Types as they are written (Substrait `Type`).
 ghost use Rattle.std.specs.Prelude.{◌≡◌, IfOk};
 
-use plan_items::{CopyIn, Items};
+use crate::{CopyIn, Items};
 use std::alloc::Global;
 use sub_types::NoMemory;
 

@@ -1,5 +1,5 @@
 -- Expressions and what stands in them.
-use Rattle.std.specs.Prelude.{ℕ, List, Option, ◌==◌, if◌then◌else◌, unwrap_or}
+use Rattle.std.specs.Prelude.{ℕ, List, ◌==◌, if◌then◌else◌, unwrap_or}
 use Rattle.std.specs.Option.{option_map_or}
 use Rattle.pb_wire.specs.Payloads.{Field, uint32_field, bytes_field}
 use Rattle.plan_scan.specs.declared.oneof.OneOf.TheVariants.{ArgumentType, RexType, SubqueryType}

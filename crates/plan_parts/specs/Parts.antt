@@ -1,5 +1,5 @@
 -- The messages that hold no relation, expression, literal or type.
-use Rattle.std.specs.Prelude.{ℕ, List, [], Option, false, ◌||◌, ◌==◌, if◌then◌else◌, unwrap_or}
+use Rattle.std.specs.Prelude.{ℕ, List, ◌||◌, ◌==◌, if◌then◌else◌, unwrap_or}
 use Rattle.std.specs.List.{filter_map}
 use Rattle.pb_wire.specs.Payloads.{Field, fields_of, blocks, uint32_field, int32_field, bytes_field, int32_numbers}
 use Rattle.plan_scan.specs.declared.oneof.OneOf.TheVariants.{EmitKind, PathType}

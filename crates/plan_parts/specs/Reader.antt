@@ -1,5 +1,5 @@
 -- The tree of a plan's bytes.
-use Rattle.std.specs.Prelude.{ℕ, zero, suc, List, Option, Some, None, Result, Ok, Err}
+use Rattle.std.specs.Prelude.{ℕ, zero, suc, List, Some, None, Result, Ok, Err}
 use Rattle.pb_wire.specs.Payloads.{Field, fields_of}
 use Rattle.plan_scan.specs.declared.shape.Shape.{Shape}
 use Rattle.plan_scan.specs.declared.shape.Shape.TheVariants as s

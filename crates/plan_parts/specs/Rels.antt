@@ -1,5 +1,5 @@
 -- Relations and what stands in them, and the roots of a plan.
-use Rattle.std.specs.Prelude.{ℕ, List, [], Option, Some, None, true, false, ◌==◌, if◌then◌else◌, unwrap_or}
+use Rattle.std.specs.Prelude.{ℕ, List, [], Option, None, true, false, ◌==◌, if◌then◌else◌, unwrap_or}
 use Rattle.std.specs.Option.{option_map_or}
 use Rattle.pb_wire.specs.Payloads.{Field, blocks, uint32_field, int64_field, uint32_numbers}
 use Rattle.plan_scan.specs.declared.oneof.OneOf.TheVariants.{PlanRelType, ReadType, OffsetMode, CountMode, RelType}

@@ -5,7 +5,6 @@ use Rattle.std.specs.List.{filter_map}
 use Rattle.pb_wire.specs.Payloads.{Field, fields_of, blocks, merged_message}
 use Rattle.plan_scan.specs.declared.shape.Shape.{Shape}
 use Rattle.plan_scan.specs.declared.shape.Shape.TheVariants as s
-use Rattle.plan_raw.specs.declared.plan.PlanTree.{PlanTree}
 use Rattle.plan_raw.specs.declared.plan.RootDecl.{RootDecl}
 use Rattle.plan_raw.specs.declared.rel.RawRel.{RawRel}
 use Rattle.plan_raw.specs.declared.expr.RawExpr.{RawExpr}

@@ -1,5 +1,5 @@
 -- Types and literals.
-use Rattle.std.specs.Prelude.{ℕ, List, Bool, Option, ◌==◌, if◌then◌else◌, unwrap_or}
+use Rattle.std.specs.Prelude.{ℕ, List, Bool, ◌==◌, if◌then◌else◌, unwrap_or}
 use Rattle.std.specs.Option.{option_map_or}
 use Rattle.pb_wire.specs.Payloads.{Field, uint32_field, int32_field, int64_field, bool_field, bytes_field}
 use Rattle.plan_scan.specs.declared.oneof.OneOf.TheVariants.{LiteralType, TypeKind}

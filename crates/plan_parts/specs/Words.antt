@@ -1,5 +1,5 @@
 -- How the fields of a message are read, from the list of its records (Protocol Buffers encoding).
-use Rattle.std.specs.Prelude.{ℕ, List, Bool, Option, map, is_some, unwrap_or}
+use Rattle.std.specs.Prelude.{ℕ, List, Bool, Option, map, is_some}
 use Rattle.std.specs.Option.{option_map, option_map_or}
 use Rattle.pb_wire.specs.Payloads.{Field, fields_of, blocks, last_block, merged_message, chosen_member}
 use Rattle.plan_scan.specs.declared.oneof.OneOf.{OneOf}

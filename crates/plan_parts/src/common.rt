@@ -6,8 +6,7 @@ ghost use Rattle.plan_parts.specs.Parts.{emit_of, common_member, common_of};
 ghost use Rattle.plan_parts.specs.Rels.{common_in};
 ghost use Rattle.plan_parts.specs.Reader.{plan_of};
 
-use plan_items::Items;
-use plan_leaves::RelCommon;
+use plan_leaves::{Items, RelCommon};
 use plan_scan::{Message, OneOf, Shape};
 use std::alloc::Global;
 use sub_types::NoMemory;
@@ -17,9 +16,9 @@ pub fn common_at(alloc: Global, message: &Message<'_>) -> Result<Option<RelCommo
     requires { HoldsMessage message.now.shape 1 Shape.RelCommon }
     ensures { IfOk result (λ common. common ≡ common_in (fields_of message.now.bytes)) }
 {
-    match message.message(alloc, 1, Shape::RelCommon)? {
+    match message.merged(alloc, 1, Shape::RelCommon)? {
         None => Ok(None),
-        Some(common) => Ok(Some(rel_common(alloc, &common)?)),
+        Some(common) => Ok(Some(rel_common(alloc, &common.message())?)),
     }
 }
 
@@ -27,7 +26,7 @@ fn rel_common(alloc: Global, message: &Message<'_>) -> Result<RelCommon, NoMemor
     requires { message.now.shape ≡ Shape.RelCommon }
     ensures { IfOk result (λ common. common ≡ common_of (fields_of message.now.bytes)) }
 {
-    match message.oneof(alloc, OneOf::EmitKind)? {
+    match message.oneof(OneOf::EmitKind) {
         None => Ok(RelCommon::Missing),
         Some((number, won)) => member(alloc, number, &won),
     }
@@ -40,9 +39,9 @@ fn member(alloc: Global, number: u32, won: &Message<'_>) -> Result<RelCommon, No
     if number == 1 {
         return Ok(RelCommon::Direct);
     }
-    match won.message(alloc, 2, Shape::Emit)? {
+    match won.merged(alloc, 2, Shape::Emit)? {
         None => Ok(RelCommon::Missing),
-        Some(emit) => mapped(alloc, &emit),
+        Some(emit) => mapped(alloc, &emit.message()),
     }
 }
 

@@ -6,8 +6,7 @@ ghost use Rattle.plan_scan.specs.Table.{HoldsMessage};
 ghost use Rattle.plan_parts.specs.Words.{part, parts};
 ghost use Rattle.plan_parts.specs.Parts.{uri_of, function_of, functions_of};
 
-use plan_items::Items;
-use plan_leaves::{FunDecl, UriDecl};
+use plan_leaves::{FunDecl, Items, UriDecl};
 use plan_scan::{Message, Shape};
 use std::alloc::Global;
 use sub_types::NoMemory;
@@ -23,7 +22,7 @@ pub fn uris_at(
 {
     let mut uris = Vec::new(alloc);
     let mut left = message.children(number, Shape::ExtensionUri);
-    while let Some(uri) = left.next(alloc) {
+    while let Some(uri) = left.next() {
         uris.push(extension_uri(alloc, &uri)?)?;
     }
     Ok(Items::from_vec(uris))
@@ -49,7 +48,7 @@ pub fn functions_at(
 {
     let mut functions = Vec::new(alloc);
     let mut left = message.children(number, Shape::ExtensionDeclaration);
-    while let Some(declaration) = left.next(alloc) {
+    while let Some(declaration) = left.next() {
         if let Some(function) = function_at(alloc, &declaration)? {
             functions.push(function)?;
         }
@@ -61,9 +60,9 @@ fn function_at(alloc: Global, message: &Message<'_>) -> Result<Option<FunDecl>, 
     requires { message.now.shape ≡ Shape.ExtensionDeclaration }
     ensures { IfOk result (λ function. function ≡ part function_of 3 (fields_of message.now.bytes)) }
 {
-    match message.message(alloc, 3, Shape::ExtensionFunction)? {
+    match message.merged(alloc, 3, Shape::ExtensionFunction)? {
         None => Ok(None),
-        Some(function) => Ok(Some(extension_function(alloc, &function)?)),
+        Some(function) => Ok(Some(extension_function(alloc, &function.message())?)),
     }
 }
 

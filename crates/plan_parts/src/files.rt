@@ -3,8 +3,7 @@ ghost use Rattle.std.specs.Prelude.{◌≡◌, IfOk};
 ghost use Rattle.pb_wire.specs.Payloads.{fields_of};
 ghost use Rattle.plan_parts.specs.Parts.{named_table_of, path_member, file_item_of, local_files_of};
 
-use plan_items::Items;
-use plan_leaves::{FileItem, ItemPath, LocalFiles, NamedTable};
+use plan_leaves::{FileItem, ItemPath, Items, LocalFiles, NamedTable};
 use plan_scan::{Message, OneOf, Shape};
 use std::alloc::Global;
 use sub_types::NoMemory;
@@ -25,7 +24,7 @@ pub fn local_files(alloc: Global, message: &Message<'_>) -> Result<LocalFiles, N
 {
     let mut items = Vec::new(alloc);
     let mut left = message.children(1, Shape::FileItem);
-    while let Some(item) = left.next(alloc) {
+    while let Some(item) = left.next() {
         items.push(file_item(alloc, &item)?)?;
     }
     Ok(LocalFiles {
@@ -37,7 +36,7 @@ fn file_item(alloc: Global, message: &Message<'_>) -> Result<FileItem, NoMemory>
     ensures { IfOk result (λ item. item ≡ file_item_of (fields_of message.now.bytes)) }
 {
     let arrow = message.has(10);
-    match message.oneof(alloc, OneOf::PathType)? {
+    match message.oneof(OneOf::PathType) {
         None => Ok(FileItem {
             path: ItemPath::Missing,
             arrow,

@@ -1,9 +1,12 @@
-//! The parts of a plan's tree that hold no relation and no expression, read from the messages of a readable plan, and in
-//! `specs/` what the tree of a plan's bytes is.
+//! The parts of a plan's tree that hold no relation and no expression, read from the messages of a readable plan, what reads
+//! relations and expressions one level further down, and in `specs/` what the tree of a plan's bytes is.
 #![tactic(auto)]
 
+mod argument;
+mod at;
 mod common;
 mod declared;
+mod deeper;
 mod files;
 mod literal;
 mod mask;
@@ -12,8 +15,11 @@ mod reference;
 mod schema;
 mod types;
 
+pub use argument::arguments_at;
+pub use at::{boxed_expr_at, expr_at, exprs_at, rel_at, rels_at};
 pub use common::common_at;
 pub use declared::{functions_at, uris_at};
+pub use deeper::Deeper;
 pub use files::{local_files, named_table};
 pub use literal::{literal_at, literal_rows_at};
 pub use mask::mask_at;

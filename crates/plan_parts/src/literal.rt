@@ -8,8 +8,7 @@ ghost use Rattle.plan_parts.specs.Rels.{literal_row_by};
 ghost use Rattle.plan_parts.specs.Reader.{reader};
 
 use crate::types::type_at;
-use plan_items::Items;
-use plan_leaves::{LiteralRow, RawLiteral};
+use plan_leaves::{Items, LiteralRow, RawLiteral};
 use plan_scan::{Message, OneOf, Shape};
 use std::alloc::Global;
 use sub_types::NoMemory;
@@ -23,9 +22,9 @@ pub fn literal_at(
     requires { HoldsMessage message.now.shape number Shape.Literal }
     ensures { IfOk result (λ literal. literal ≡ child (reader message.now.below) Shape.Literal number (fields_of message.now.bytes)) }
 {
-    match message.message(alloc, number, Shape::Literal)? {
+    match message.merged(alloc, number, Shape::Literal)? {
         None => Ok(None),
-        Some(found) => Ok(Some(literal(alloc, &found)?)),
+        Some(found) => Ok(Some(literal(alloc, &found.message())?)),
     }
 }
 
@@ -40,7 +39,7 @@ pub fn literal_rows_at(
 {
     let mut rows = Vec::new(alloc);
     let mut left = message.children(number, Shape::LiteralRow);
-    while let Some(row) = left.next(alloc) {
+    while let Some(row) = left.next() {
         rows.push(literal_row(alloc, &row)?)?;
     }
     Ok(Items::from_vec(rows))
@@ -52,7 +51,7 @@ fn literal_row(alloc: Global, message: &Message<'_>) -> Result<LiteralRow, NoMem
 {
     let mut fields = Vec::new(alloc);
     let mut left = message.children(1, Shape::Literal);
-    while let Some(field) = left.next(alloc) {
+    while let Some(field) = left.next() {
         fields.push(literal(alloc, &field)?)?;
     }
     Ok(LiteralRow {
@@ -65,7 +64,7 @@ fn literal(alloc: Global, message: &Message<'_>) -> Result<RawLiteral, NoMemory>
     ensures { IfOk result (λ literal. literal ≡ literal_by (reader message.now.below) (fields_of message.now.bytes)) }
 {
     let nullable = message.boolean(50);
-    match message.oneof(alloc, OneOf::LiteralType)? {
+    match message.oneof(OneOf::LiteralType) {
         None => Ok(RawLiteral::Missing),
         Some((number, won)) => member(alloc, number, &won, nullable),
     }
@@ -127,9 +126,9 @@ fn decimal_at(alloc: Global, won: &Message<'_>, nullable: bool) -> Result<RawLit
     requires { won.now.shape ≡ Shape.Literal }
     ensures { IfOk result (λ literal. literal ≡ decimal_in nullable (fields_of won.now.bytes)) }
 {
-    match won.message(alloc, 24, Shape::DecimalLiteral)? {
+    match won.merged(alloc, 24, Shape::DecimalLiteral)? {
         None => Ok(RawLiteral::Missing),
-        Some(found) => decimal(alloc, &found, nullable),
+        Some(found) => decimal(alloc, &found.message(), nullable),
     }
 }
 

@@ -5,8 +5,7 @@ ghost use Rattle.plan_scan.specs.Table.{HoldsMessage};
 ghost use Rattle.plan_parts.specs.Words.{part, parts};
 ghost use Rattle.plan_parts.specs.Parts.{mask_item_of, mask_struct_of, mask_of};
 
-use plan_items::Items;
-use plan_leaves::{MaskExpression, MaskItem, MaskStruct};
+use plan_leaves::{Items, MaskExpression, MaskItem, MaskStruct};
 use plan_scan::{Message, Shape};
 use std::alloc::Global;
 use sub_types::NoMemory;
@@ -20,9 +19,9 @@ pub fn mask_at(
     requires { HoldsMessage message.now.shape number Shape.MaskExpression }
     ensures { IfOk result (λ mask. mask ≡ part mask_of number (fields_of message.now.bytes)) }
 {
-    match message.message(alloc, number, Shape::MaskExpression)? {
+    match message.merged(alloc, number, Shape::MaskExpression)? {
         None => Ok(None),
-        Some(mask) => Ok(Some(mask_expression(alloc, &mask)?)),
+        Some(mask) => Ok(Some(mask_expression(alloc, &mask.message())?)),
     }
 }
 
@@ -30,10 +29,10 @@ fn mask_expression(alloc: Global, message: &Message<'_>) -> Result<MaskExpressio
     requires { message.now.shape ≡ Shape.MaskExpression }
     ensures { IfOk result (λ mask. mask ≡ mask_of (fields_of message.now.bytes)) }
 {
-    match message.message(alloc, 1, Shape::StructSelect)? {
+    match message.merged(alloc, 1, Shape::StructSelect)? {
         None => Ok(MaskExpression { select: None }),
         Some(select) => Ok(MaskExpression {
-            select: Some(mask_struct(alloc, &select)?),
+            select: Some(mask_struct(alloc, &select.message())?),
         }),
     }
 }
@@ -44,7 +43,7 @@ fn mask_struct(alloc: Global, message: &Message<'_>) -> Result<MaskStruct, NoMem
 {
     let mut items = Vec::new(alloc);
     let mut left = message.children(1, Shape::StructItem);
-    while let Some(item) = left.next(alloc) {
+    while let Some(item) = left.next() {
         items.push(mask_item(&item))?;
     }
     Ok(MaskStruct {

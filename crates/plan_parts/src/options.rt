@@ -5,8 +5,7 @@ ghost use Rattle.plan_scan.specs.Table.{HoldsMessage};
 ghost use Rattle.plan_parts.specs.Words.{parts};
 ghost use Rattle.plan_parts.specs.Parts.{option_of};
 
-use plan_items::Items;
-use plan_leaves::FunctionOption;
+use plan_leaves::{FunctionOption, Items};
 use plan_scan::{Message, Shape};
 use std::alloc::Global;
 use sub_types::NoMemory;
@@ -22,7 +21,7 @@ pub fn options_at(
 {
     let mut options = Vec::new(alloc);
     let mut left = message.children(number, Shape::FunctionOption);
-    while let Some(option) = left.next(alloc) {
+    while let Some(option) = left.next() {
         options.push(function_option(alloc, &option)?)?;
     }
     Ok(Items::from_vec(options))

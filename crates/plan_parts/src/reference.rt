@@ -27,9 +27,9 @@ fn segment_at(alloc: Global, message: &Message<'_>) -> Result<Option<ReferenceSe
     requires { message.now.shape ≡ Shape.FieldReference }
     ensures { IfOk result (λ segment. segment ≡ part segment_of 1 (fields_of message.now.bytes)) }
 {
-    match message.message(alloc, 1, Shape::ReferenceSegment)? {
+    match message.merged(alloc, 1, Shape::ReferenceSegment)? {
         None => Ok(None),
-        Some(segment) => Ok(Some(reference_segment(alloc, &segment)?)),
+        Some(segment) => Ok(Some(reference_segment(alloc, &segment.message())?)),
     }
 }
 
@@ -37,10 +37,10 @@ fn reference_segment(alloc: Global, message: &Message<'_>) -> Result<ReferenceSe
     requires { message.now.shape ≡ Shape.ReferenceSegment }
     ensures { IfOk result (λ segment. segment ≡ segment_of (fields_of message.now.bytes)) }
 {
-    match message.message(alloc, 2, Shape::StructField)? {
+    match message.merged(alloc, 2, Shape::StructField)? {
         None => Ok(ReferenceSegment { struct_field: None }),
         Some(field) => Ok(ReferenceSegment {
-            struct_field: Some(struct_field(&field)),
+            struct_field: Some(struct_field(&field.message())),
         }),
     }
 }

@@ -7,8 +7,7 @@ ghost use Rattle.plan_parts.specs.Rels.{named_struct_by};
 ghost use Rattle.plan_parts.specs.Reader.{reader};
 
 use crate::types::struct_type_at;
-use plan_items::Items;
-use plan_leaves::NamedStruct;
+use plan_leaves::{Items, NamedStruct};
 use plan_scan::{Message, Shape};
 use std::alloc::Global;
 use sub_types::NoMemory;
@@ -22,9 +21,9 @@ pub fn named_struct_at(
     requires { HoldsMessage message.now.shape number Shape.NamedStruct }
     ensures { IfOk result (λ schema. schema ≡ child (reader message.now.below) Shape.NamedStruct number (fields_of message.now.bytes)) }
 {
-    match message.message(alloc, number, Shape::NamedStruct)? {
+    match message.merged(alloc, number, Shape::NamedStruct)? {
         None => Ok(None),
-        Some(schema) => Ok(Some(named_struct(alloc, &schema)?)),
+        Some(schema) => Ok(Some(named_struct(alloc, &schema.message())?)),
     }
 }
 

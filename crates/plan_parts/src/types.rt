@@ -7,8 +7,7 @@ ghost use Rattle.plan_parts.specs.Shapes.{child, children};
 ghost use Rattle.plan_parts.specs.Types.{nullability_of, decimal_type_of, decimal_type_in, struct_type_by, type_member, type_by};
 ghost use Rattle.plan_parts.specs.Reader.{reader};
 
-use plan_items::Items;
-use plan_leaves::{RawType, StructType};
+use plan_leaves::{Items, RawType, StructType};
 use plan_scan::{Message, OneOf, Shape};
 use std::alloc::Global;
 use sub_types::NoMemory;
@@ -22,9 +21,9 @@ pub fn type_at(
     requires { HoldsMessage message.now.shape number Shape.DataType }
     ensures { IfOk result (λ ty. ty ≡ child (reader message.now.below) Shape.DataType number (fields_of message.now.bytes)) }
 {
-    match message.message(alloc, number, Shape::DataType)? {
+    match message.merged(alloc, number, Shape::DataType)? {
         None => Ok(None),
-        Some(ty) => Ok(Some(data_type(alloc, &ty)?)),
+        Some(ty) => Ok(Some(data_type(alloc, &ty.message())?)),
     }
 }
 
@@ -37,9 +36,9 @@ pub fn struct_type_at(
     requires { HoldsMessage message.now.shape number Shape.StructType }
     ensures { IfOk result (λ ty. ty ≡ child (reader message.now.below) Shape.StructType number (fields_of message.now.bytes)) }
 {
-    match message.message(alloc, number, Shape::StructType)? {
+    match message.merged(alloc, number, Shape::StructType)? {
         None => Ok(None),
-        Some(ty) => Ok(Some(struct_type(alloc, &ty)?)),
+        Some(ty) => Ok(Some(struct_type(alloc, &ty.message())?)),
     }
 }
 
@@ -48,7 +47,7 @@ fn data_type(alloc: Global, message: &Message<'_>) -> Result<RawType, NoMemory>
     requires { message.now.shape ≡ Shape.DataType }
     ensures { IfOk result (λ ty. ty ≡ type_by (reader message.now.below) (fields_of message.now.bytes)) }
 {
-    match message.oneof(alloc, OneOf::TypeKind)? {
+    match message.oneof(OneOf::TypeKind) {
         None => Ok(RawType::Missing),
         Some((number, won)) => member(alloc, number, &won),
     }
@@ -88,10 +87,10 @@ fn member(alloc: Global, number: u32, won: &Message<'_>) -> Result<RawType, NoMe
             nullability: nullability_at(alloc, won, 16)?,
         }),
         24 => decimal_type_at(alloc, won),
-        25 => match won.message(alloc, 25, Shape::StructType)? {
+        25 => match won.merged(alloc, 25, Shape::StructType)? {
             None => Ok(RawType::Missing),
             Some(inner) => Ok(RawType::Struct {
-                types: struct_type(alloc, &inner)?.types,
+                types: struct_type(alloc, &inner.message())?.types,
             }),
         },
         _ => Ok(RawType::Unknown { number }),
@@ -105,7 +104,7 @@ fn struct_type(alloc: Global, message: &Message<'_>) -> Result<StructType, NoMem
 {
     let mut types = Vec::new(alloc);
     let mut left = message.children(1, Shape::DataType);
-    while let Some(ty) = left.next(alloc) {
+    while let Some(ty) = left.next() {
         types.push(data_type(alloc, &ty)?)?;
     }
     Ok(StructType {
@@ -117,9 +116,9 @@ fn nullability_at(alloc: Global, won: &Message<'_>, number: u32) -> Result<u32, 
     requires { HoldsMessage won.now.shape number Shape.PlainType }
     ensures { IfOk result (λ nullability. nullability ≡ nullability_of number (fields_of won.now.bytes)) }
 {
-    match won.message(alloc, number, Shape::PlainType)? {
+    match won.merged(alloc, number, Shape::PlainType)? {
         None => Ok(0),
-        Some(plain) => Ok(plain.uint32(2)),
+        Some(plain) => Ok(plain.message().uint32(2)),
     }
 }
 
@@ -127,9 +126,9 @@ fn decimal_type_at(alloc: Global, won: &Message<'_>) -> Result<RawType, NoMemory
     requires { won.now.shape ≡ Shape.DataType }
     ensures { IfOk result (λ ty. ty ≡ decimal_type_in (fields_of won.now.bytes)) }
 {
-    match won.message(alloc, 24, Shape::DecimalType)? {
+    match won.merged(alloc, 24, Shape::DecimalType)? {
         None => Ok(RawType::Missing),
-        Some(decimal) => Ok(decimal_type(&decimal)),
+        Some(decimal) => Ok(decimal_type(&decimal.message())),
     }
 }
 

@@ -1,7 +1,6 @@
 // The parts of an aggregate relation and of a sort relation (Substrait `AggregateRel` and `SortField`).
 use crate::{FunctionArgument, RawExpr};
-use plan_items::Items;
-use plan_leaves::{FunctionOption, RawType};
+use plan_leaves::{FunctionOption, Items, RawType};
 
 /// A `SortField`.
 #[cycle(raw)]

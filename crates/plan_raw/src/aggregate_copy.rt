@@ -3,7 +3,7 @@ ghost use Rattle.std.specs.Prelude.{◌≡◌, IfOk};
 
 use crate::expr_copy::{copy_arguments, copy_exprs, copy_option};
 use crate::{AggregateFunction, Grouping, Measure, SortField};
-use plan_items::{CopyIn, Items, zip};
+use plan_leaves::{CopyIn, Items, zip};
 use std::alloc::Global;
 use sub_types::NoMemory;
 

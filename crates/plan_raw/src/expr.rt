@@ -1,7 +1,6 @@
 // Expressions as they are written (Substrait `Expression`).
 use crate::{FunctionArgument, RawRel};
-use plan_items::{Boxed, Items};
-use plan_leaves::{FunctionOption, RawLiteral, RawType, ReferenceSegment};
+use plan_leaves::{Boxed, FunctionOption, Items, RawLiteral, RawType, ReferenceSegment};
 
 /// An `Expression.IfThen.IfClause`.
 #[cycle(raw)]

@@ -3,7 +3,7 @@ ghost use Rattle.std.specs.Prelude.{◌≡◌, IfOk};
 
 use crate::rel_copy::copy_input;
 use crate::{FunctionArgument, IfClause, IfValue, RawExpr};
-use plan_items::{Boxed, CopyIn, Items, zip};
+use plan_leaves::{Boxed, CopyIn, Items, zip};
 use std::alloc::Global;
 use sub_types::NoMemory;
 

@@ -3,8 +3,7 @@ ghost use Rattle.std.specs.Prelude.{◌≡◌, IfOk};
 
 use crate::RawRel;
 use crate::rel_copy::copy_input;
-use plan_items::{Boxed, CopyIn, Items, zip};
-use plan_leaves::{FunDecl, UriDecl};
+use plan_leaves::{Boxed, CopyIn, FunDecl, Items, UriDecl, zip};
 use std::alloc::Global;
 use sub_types::{ByteList, NoMemory};
 

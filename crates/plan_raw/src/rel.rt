@@ -1,7 +1,6 @@
 // Relations as they are written (Substrait `Rel`).
 use crate::{Grouping, Measure, RawExpr, RawSource, SortField};
-use plan_items::{Boxed, Items};
-use plan_leaves::{MaskExpression, NamedStruct, RelCommon};
+use plan_leaves::{Boxed, Items, MaskExpression, NamedStruct, RelCommon};
 
 /// The oneof `offset_mode` of a fetch.
 #[cycle(raw)]

@@ -5,7 +5,7 @@ use crate::aggregate_copy::{copy_groupings, copy_measures, copy_sorts};
 use crate::expr_copy::{copy_boxed, copy_expr, copy_exprs};
 use crate::source_copy::copy_source;
 use crate::{RawCount, RawOffset, RawRel};
-use plan_items::{Boxed, CopyIn, Items, zip};
+use plan_leaves::{Boxed, CopyIn, Items, zip};
 use std::alloc::Global;
 use sub_types::NoMemory;
 

@@ -1,7 +1,6 @@
 // What a read relation reads (Substrait `ReadRel`).
 use crate::RawExpr;
-use plan_items::Items;
-use plan_leaves::{LiteralRow, LocalFiles, NamedTable};
+use plan_leaves::{Items, LiteralRow, LocalFiles, NamedTable};
 
 /// What a read relation reads, the oneof `read_type`.
 #[cycle(raw)]

@@ -6,12 +6,12 @@ use std::marker::Model;
 
 /// A reader of the payloads of a field, seen as those that are left.
 #[derive(Drop)]
-pub(crate) struct Blocks<'m, 'a> {
-    records: Records<'m, 'a>,
+pub(crate) struct Blocks<'a> {
+    records: Records<'a>,
     number: u32,
 }
 
-impl<'m, 'a> Model for Blocks<'m, 'a> {
+impl<'a> Model for Blocks<'a> {
     ghost use Rattle.std.specs.Prelude.{ℕ, List};
     ghost use Rattle.pb_wire.specs.Payloads.{fields_of, blocks};
 
@@ -20,13 +20,13 @@ impl<'m, 'a> Model for Blocks<'m, 'a> {
     ghost view = { λ reader. blocks reader.number (fields_of reader.records) };
 }
 
-impl<'m, 'a> Blocks<'m, 'a> {
+impl<'a> Blocks<'a> {
     ghost use Rattle.std.specs.Prelude.{◌≡◌, ◌++◌, [], IsNone};
     ghost use Rattle.std.specs.Option.{option_copied, option_to_list};
     ghost use Rattle.pb_wire.specs.Payloads.{fields_of, blocks};
 
     /// The payloads of the field of this number among these records.
-    pub(crate) fn new(records: Records<'m, 'a>, number: u32) -> Blocks<'m, 'a>
+    pub(crate) fn new(records: Records<'a>, number: u32) -> Blocks<'a>
         ensures { result ≡ blocks number (fields_of records.entry) }
     {
         Blocks { records, number }

@@ -4,19 +4,18 @@ ghost use Rattle.std.specs.Prelude.{◌≡◌};
 use crate::blocks::Blocks;
 use crate::message::Message;
 use crate::shape::Shape;
-use std::alloc::Global;
 use std::marker::Model;
 
 /// A reader of the messages of a field: seen as their shape, the levels below the message that has them, and the payloads
 /// that are left.
 #[derive(Drop)]
-pub struct Children<'m, 'a> {
-    blocks: Blocks<'m, 'a>,
+pub struct Children<'a> {
+    blocks: Blocks<'a>,
     shape: Shape,
     above: u32,
 }
 
-impl<'m, 'a> Model for Children<'m, 'a> {
+impl<'a> Model for Children<'a> {
     ghost use Rattle.std.specs.Prelude.{◌≡◌, true};
     ghost use Rattle.std.specs.List.{list_all};
     ghost use Rattle.plan_scan.specs.Scanned.{Left, is_readable};
@@ -28,13 +27,13 @@ impl<'m, 'a> Model for Children<'m, 'a> {
     ghost invariant = { λ c. list_all (is_readable c.above c.shape) c.blocks ≡ true };
 }
 
-impl<'m, 'a> Children<'m, 'a> {
+impl<'a> Children<'a> {
     ghost use Rattle.std.specs.Prelude.{◌≡◌, true};
     ghost use Rattle.std.specs.List.{list_all};
     ghost use Rattle.plan_scan.specs.Scanned.{IsNextChild, is_readable};
 
     /// The messages of this shape in these payloads, in a message with so many levels below it.
-    pub(crate) fn new(blocks: Blocks<'m, 'a>, shape: Shape, above: u32) -> Children<'m, 'a>
+    pub(crate) fn new(blocks: Blocks<'a>, shape: Shape, above: u32) -> Children<'a>
         requires { list_all (is_readable above shape) blocks ≡ true }
         ensures { result ≡ record { shape = shape; above = above; blocks = blocks.entry } }
     {
@@ -46,10 +45,10 @@ impl<'m, 'a> Children<'m, 'a> {
     }
 
     /// The next message, or `None` at the end. No payload is copied.
-    pub fn next(&mut self, alloc: Global) -> Option<Message<'a>>
+    pub fn next(&mut self) -> Option<Message<'a>>
         ensures { IsNextChild self.old self.new result }
     {
         let block = self.blocks.next()?;
-        Some(Message::of_pieces(self.shape, self.above - 1, block, Vec::new(alloc)))
+        Some(Message::of_pieces(self.shape, self.above - 1, block, &[]))
     }
 }

@@ -5,6 +5,7 @@ ghost use Rattle.plan_scan.specs.Member.{is_last};
 use crate::blocks::Blocks;
 use crate::children::Children;
 use crate::flaw::Flaw;
+use crate::merged::Merged;
 use crate::oneof::OneOf;
 use crate::records::Records;
 use crate::scan::{LEVELS, flaw_of};
@@ -20,7 +21,7 @@ pub struct Message<'a> {
     pub(crate) shape: Shape,
     below: u32,
     first: &'a [u8],
-    more: Vec<&'a [u8]>,
+    later: &'a [&'a [u8]],
 }
 
 impl<'a> Model for Message<'a> {
@@ -31,9 +32,9 @@ impl<'a> Model for Message<'a> {
 
     ghost Value = { Scanned };
 
-    ghost view = { λ m. record { shape = m.shape; below = m.below; bytes = concat (m.first.now ∷ pieces_of m.more.items) } };
+    ghost view = { λ m. record { shape = m.shape; below = m.below; bytes = concat (m.first.now ∷ pieces_of m.later.now) } };
 
-    ghost invariant = { λ m. list_all (is_readable (suc m.below) m.shape) (m.first.now ∷ pieces_of m.more.items) ≡ true };
+    ghost invariant = { λ m. list_all (is_readable (suc m.below) m.shape) (m.first.now ∷ pieces_of m.later.now) ≡ true };
 }
 
 impl<'a> Message<'a> {
@@ -48,7 +49,7 @@ impl<'a> Message<'a> {
     ghost use Rattle.plan_scan.specs.Member.{is_member};
 
     /// The plan, or the first flaw of its bytes.
-    pub fn plan(alloc: Global, bytes: &'a [u8]) -> Result<Message<'a>, Flaw>
+    pub fn plan(bytes: &'a [u8]) -> Result<Message<'a>, Flaw>
         ensures readable { IfOk result (λ plan. flaw bytes.entry.now ≡ None) }
         ensures plan { IfOk result (λ plan. plan ≡ record { shape = Shape.Plan; below = 99; bytes = bytes.entry.now }) }
         ensures flaw { IfErr result (λ found. flaw bytes.entry.now ≡ Some found) }
@@ -59,7 +60,7 @@ impl<'a> Message<'a> {
                 shape: Shape::Plan,
                 below: LEVELS - 1,
                 first: bytes,
-                more: Vec::new(alloc),
+                later: &[],
             }),
         }
     }
@@ -69,40 +70,47 @@ impl<'a> Message<'a> {
         shape: Shape,
         below: u32,
         first: &'a [u8],
-        more: Vec<&'a [u8]>,
+        later: &'a [&'a [u8]],
     ) -> Message<'a>
-        requires { list_all (is_readable (suc below) shape) (first.now ∷ pieces_of more.items) ≡ true }
-        ensures { result ≡ record { shape = shape; below = below; bytes = concat (first.entry.now ∷ pieces_of more.entry.items) } }
+        requires { list_all (is_readable (suc below) shape) (first.now ∷ pieces_of later.now) ≡ true }
+        ensures { result ≡ record { shape = shape; below = below; bytes = concat (first.entry.now ∷ pieces_of later.entry.now) } }
     {
         Message {
             shape,
             below,
             first,
-            more,
+            later,
         }
     }
 
+    /// How many levels of messages may lie below it.
+    pub fn below(&self) -> u32
+        ensures { result ≡ self.now.below }
+    {
+        self.below
+    }
+
     /// The records of the message.
-    pub(crate) fn records(&self) -> Records<'_, 'a>
+    pub(crate) fn records(&self) -> Records<'a>
         ensures { result ≡ self.now.bytes }
     {
-        Records::new(self.first, &self.more)
+        Records::new(self.first, self.later)
     }
 
     /// The payloads of a field of texts, bytes or messages.
-    pub(crate) fn blocks(&self, number: u32) -> Blocks<'_, 'a>
+    pub(crate) fn blocks(&self, number: u32) -> Blocks<'a>
         ensures { result ≡ blocks number (fields_of self.now.bytes) }
     {
         Blocks::new(self.records(), number)
     }
 
     /// The message of a singular field, or `None` where it is absent.
-    pub fn message(
+    pub fn merged(
         &self,
         alloc: Global,
         number: u32,
         shape: Shape,
-    ) -> Result<Option<Message<'a>>, NoMemory>
+    ) -> Result<Option<Merged<'a>>, NoMemory>
         requires { HoldsMessage self.now.shape number shape }
         ensures bytes { IfOk result (λ found. option_map (λ child. child.bytes) found ≡ merged_message number (fields_of self.now.bytes)) }
         ensures shape { IfOk result (λ found. IfSome found (λ child. child.shape ≡ shape)) }
@@ -116,16 +124,11 @@ impl<'a> Message<'a> {
         while let Some(block) = blocks.next() {
             more.push(block)?;
         }
-        Ok(Some(Message {
-            shape,
-            below: self.below - 1,
-            first,
-            more,
-        }))
+        Ok(Some(Merged::new(shape, self.below - 1, first, more)))
     }
 
     /// The messages of a repeated field.
-    pub fn children(&self, number: u32, shape: Shape) -> Children<'_, 'a>
+    pub fn children(&self, number: u32, shape: Shape) -> Children<'a>
         requires { HoldsMessage self.now.shape number shape }
         ensures { result ≡ record { shape = shape; above = self.now.below; blocks = blocks number (fields_of self.now.bytes) } }
     {
@@ -134,21 +137,19 @@ impl<'a> Message<'a> {
 
     /// The winner of a oneof, or `None` where it has no member: its number, and a message of the same shape whose records
     /// are those since the last record of any other member. The winner is the field of that number there.
-    pub fn oneof(&self, alloc: Global, oneof: OneOf) -> Result<Option<(u32, Message<'a>)>, NoMemory>
-        ensures member { IfOk result (λ found. option_map (λ won. record { number = won.0; records = fields_of won.1.bytes }) found ≡ chosen_member (is_member oneof) (fields_of self.now.bytes)) }
-        ensures shape { IfOk result (λ found. IfSome found (λ won. won.1.shape ≡ self.now.shape)) }
-        ensures below { IfOk result (λ found. IfSome found (λ won. won.1.below ≡ self.now.below)) }
+    pub fn oneof(&self, oneof: OneOf) -> Option<(u32, Message<'a>)>
+        ensures member { option_map (λ won. record { number = won.0; records = fields_of won.1.bytes }) result ≡ chosen_member (is_member oneof) (fields_of self.now.bytes) }
+        ensures shape { IfSome result (λ won. won.1.shape ≡ self.now.shape) }
+        ensures below { IfSome result (λ won. won.1.below ≡ self.now.below) }
     {
-        let Some((number, since)) = self.winner(oneof) else {
-            return Ok(None);
-        };
-        let (first, more) = since.pieces(alloc)?;
-        let won = Message::of_pieces(self.shape, self.below, first, more);
-        Ok(Some((number, won)))
+        let (number, since) = self.winner(oneof)?;
+        let (first, later) = since.pieces();
+        let won = Message::of_pieces(self.shape, self.below, first, later);
+        Some((number, won))
     }
 
     // The number of the last member of a oneof, and the records since the last record of any other member, in one pass.
-    fn winner(&self, oneof: OneOf) -> Option<(u32, Records<'_, 'a>)>
+    fn winner(&self, oneof: OneOf) -> Option<(u32, Records<'a>)>
         ensures { option_map (λ won. record { number = won.0; records = fields_of won.1 }) result ≡ chosen_member (is_member oneof) (fields_of self.now.bytes) }
     {
         let mut last = None;

@@ -5,20 +5,18 @@ ghost use Rattle.pb_wire.specs.Seen.{field_seen};
 ghost use Rattle.pb_wire.specs.Payloads.{varint_in, block_in};
 
 use pb_wire::{Fields, Payload, Record};
-use std::alloc::Global;
 use std::marker::Model;
-use sub_types::NoMemory;
 
 /// A reader of the records of a message in pieces, seen as the bytes that are left.
 #[derive(Drop)]
-pub(crate) struct Records<'m, 'a> {
+pub(crate) struct Records<'a> {
     // What is left of the piece that is read.
     rest: &'a [u8],
-    later: &'m [&'a [u8]],
+    later: &'a [&'a [u8]],
     index: usize,
 }
 
-impl<'m, 'a> Model for Records<'m, 'a> {
+impl<'a> Model for Records<'a> {
     ghost use Rattle.std.specs.Prelude.{ℕ, ◌≤◌, List, length};
     ghost use Rattle.std.specs.List.{concat};
     ghost use Rattle.plan_scan.specs.Pieces.{left_pieces, AreWhole};
@@ -30,13 +28,13 @@ impl<'m, 'a> Model for Records<'m, 'a> {
     ghost invariant = { λ records. (records.index ≤ length records.later.now) × AreWhole (left_pieces records.rest.now records.later.now records.index) };
 }
 
-impl<'m, 'a> Records<'m, 'a> {
-    ghost use Rattle.std.specs.Prelude.{◌≡◌, ◌<◌, ◌∷◌, length, OnSome, IfOk};
+impl<'a> Records<'a> {
+    ghost use Rattle.std.specs.Prelude.{◌≡◌, ◌<◌, ◌∷◌, length, OnSome};
     ghost use Rattle.std.specs.List.{concat};
     ghost use Rattle.plan_scan.specs.Pieces.{left_pieces, pieces_of, AreWhole, IsFirstRecord};
 
     /// The records of the first piece, and then those of the later ones.
-    pub(crate) fn new(first: &'a [u8], later: &'m [&'a [u8]]) -> Records<'m, 'a>
+    pub(crate) fn new(first: &'a [u8], later: &'a [&'a [u8]]) -> Records<'a>
         requires { AreWhole (left_pieces first.now later.now 0) }
         ensures { result ≡ concat (left_pieces first.entry.now later.entry.now 0) }
     {
@@ -73,7 +71,7 @@ impl<'m, 'a> Records<'m, 'a> {
 
     /// The same records again, from here on.
     #[inline(always)]
-    pub(crate) fn again(&self) -> Records<'m, 'a>
+    pub(crate) fn again(&self) -> Records<'a>
         ensures { result ≡ self.now }
     {
         Records {
@@ -84,12 +82,12 @@ impl<'m, 'a> Records<'m, 'a> {
     }
 
     /// The pieces that are left, the first apart.
-    pub(crate) fn pieces(&self, alloc: Global) -> Result<(&'a [u8], Vec<&'a [u8]>), NoMemory>
-        ensures bytes { IfOk result (λ left. concat (left.0.now ∷ pieces_of left.1.items) ≡ self.now) }
-        ensures whole { IfOk result (λ left. AreWhole (left.0.now ∷ pieces_of left.1.items)) }
+    pub(crate) fn pieces(&self) -> (&'a [u8], &'a [&'a [u8]])
+        ensures bytes { concat (result.0.now ∷ pieces_of result.1.now) ≡ self.now }
+        ensures whole { AreWhole (result.0.now ∷ pieces_of result.1.now) }
     {
         let (_, later) = self.later.split_at(self.index);
-        Ok((self.rest, later.to_vec(alloc)?))
+        (self.rest, later)
     }
 }
 

@@ -1,5 +1,5 @@
 // Checked expressions.
-use plan_items::{Boxed, Items};
+use plan_leaves::{Boxed, Items};
 use sub_types::{Ty, Value};
 
 /// What a call does where its result leaves its type: it is a fault, the nearest value, or it wraps.

@@ -2,7 +2,7 @@
 ghost use Rattle.std.specs.Prelude.{◌≡◌, IfOk};
 
 use crate::Expr;
-use plan_items::{Boxed, CopyIn, Items, zip};
+use plan_leaves::{Boxed, CopyIn, Items, zip};
 use std::alloc::Global;
 use sub_types::{NoMemory, Value};
 

@@ -1,6 +1,6 @@
 // Checked relations and plans.
 use crate::{Expr, Func};
-use plan_items::{Boxed, Items};
+use plan_leaves::{Boxed, Items};
 use sub_types::{ByteList, Ty};
 
 /// The kinds of joins (Substrait `JoinRel.JoinType` 1 to 6).

@@ -1,6 +1,6 @@
 // Checked plans with the places at which the values of their subqueries go.
 use crate::{Rel, Typed};
-use plan_items::Items;
+use plan_leaves::Items;
 
 /// What a subquery gives: the value of its one row, the values to search, or whether it has a row.
 #[derive(Clone, Copy, Debug, PartialEq, Eq, Hash)]

@@ -1,6 +1,5 @@
 // What a test sees of a tree.
-use plan_items::Items;
-use plan_leaves::{RawLiteral, RawType, RelCommon, StructType};
+use plan_leaves::{Items, RawLiteral, RawType, RelCommon, StructType};
 use plan_raw::{PlanTree, RawExpr, RawRel, RawSource};
 use sub_types::ByteList;
 

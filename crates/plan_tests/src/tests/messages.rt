@@ -2,24 +2,24 @@
 ghost use Rattle.std.specs.Prelude.{◌≡◌, IfOk, IfSome};
 
 use super::flaws::THREE_ROWS;
-use plan_scan::{Message, OneOf, Shape};
+use plan_scan::{Merged, Message, OneOf, Shape};
 use std::alloc::Global;
 use std::test::Fail;
 
 // The plan that the bytes are.
-fn plan<'a>(rt: &HostRuntime, bytes: &'a [u8]) -> Result<Message<'a>, Fail>
+fn plan<'a>(bytes: &'a [u8]) -> Result<Message<'a>, Fail>
     ensures { IfOk result (λ plan. plan.shape ≡ Shape.Plan) }
 {
-    Ok(Message::plan(rt.alloc(), bytes)?)
+    Ok(Message::plan(bytes)?)
 }
 
 // The first URI of a plan, whose fields are an anchor 1 and a text 2.
-fn first_uri<'a>(rt: &HostRuntime, bytes: &'a [u8]) -> Result<Message<'a>, Fail>
+fn first_uri<'a>(bytes: &'a [u8]) -> Result<Message<'a>, Fail>
     ensures { IfOk result (λ uri. uri.shape ≡ Shape.ExtensionUri) }
 {
-    let plan = plan(rt, bytes)?;
+    let plan = plan(bytes)?;
     let mut uris = plan.children(1, Shape::ExtensionUri);
-    match uris.next(rt.alloc()) {
+    match uris.next() {
         Some(uri) => Ok(uri),
         None => Err("no URI")?,
     }
@@ -27,7 +27,7 @@ fn first_uri<'a>(rt: &HostRuntime, bytes: &'a [u8]) -> Result<Message<'a>, Fail>
 
 // The field 1 of the first URI as a number of each type.
 fn numbers_of(rt: &HostRuntime, bytes: &[u8]) -> Result<(u32, i32, i64, bool), Fail> {
-    let uri = first_uri(rt, bytes)?;
+    let uri = first_uri(bytes)?;
     Ok((uri.uint32(1), uri.int32(1), uri.int64(1), uri.boolean(1)))
 }
 
@@ -67,7 +67,7 @@ fn numbers_of_each_type(rt: HostRuntime) -> Result<(), Fail> {
 
 // Whether the field 2 of the first URI has this last text, and so many texts.
 fn has_texts(rt: &HostRuntime, bytes: &[u8], last: &str, count: usize) -> Result<bool, Fail> {
-    let uri = first_uri(rt, bytes)?;
+    let uri = first_uri(bytes)?;
     if uri.has(2) != (count > 0) || uri.bytes(2) != last.as_bytes() {
         return Ok(false);
     }
@@ -97,7 +97,7 @@ fn has_numbers(
     signed: &[i32],
     unsigned: &[u32],
 ) -> Result<bool, Fail> {
-    let uri = first_uri(rt, bytes)?;
+    let uri = first_uri(bytes)?;
     if uri.int32s(rt.alloc(), 5)?.as_slice() != signed {
         return Ok(false);
     }
@@ -124,16 +124,16 @@ fn packed_and_unpacked_numbers_mix(rt: HostRuntime) -> Result<(), Fail> {
 }
 
 // The root of the first relation of a plan, whose fields are an input 1 and names 2.
-fn first_root<'a>(rt: &HostRuntime, bytes: &'a [u8]) -> Result<Option<Message<'a>>, Fail>
+fn first_root<'a>(rt: &HostRuntime, bytes: &'a [u8]) -> Result<Option<Merged<'a>>, Fail>
     ensures { IfOk result (λ found. IfSome found (λ root. root.shape ≡ Shape.RelRoot)) }
 {
-    let plan = plan(rt, bytes)?;
+    let plan = plan(bytes)?;
     let mut relations = plan.children(3, Shape::PlanRel);
-    let Some(relation) = relations.next(rt.alloc()) else {
+    let Some(relation) = relations.next() else {
         return Ok(None);
     };
-    match relation.oneof(rt.alloc(), OneOf::PlanRelType)? {
-        Some((2, won)) => Ok(won.message(rt.alloc(), 2, Shape::RelRoot)?),
+    match relation.oneof(OneOf::PlanRelType) {
+        Some((2, won)) => Ok(won.merged(rt.alloc(), 2, Shape::RelRoot)?),
         _ => Ok(None),
     }
 }
@@ -143,7 +143,7 @@ fn has_names(rt: &HostRuntime, bytes: &[u8], names: &[&[u8]]) -> Result<bool, Fa
     let Some(root) = first_root(rt, bytes)? else {
         return Ok(false);
     };
-    let found = root.texts(rt.alloc(), 2)?;
+    let found = root.message().texts(rt.alloc(), 2)?;
     if found.len() != names.len() {
         return Ok(false);
     }
@@ -194,19 +194,19 @@ fn relation_of(rt: &HostRuntime, bytes: &[u8]) -> Result<(u32, usize), Fail> {
     let Some(root) = first_root(rt, bytes)? else {
         return Ok((0, 0));
     };
-    let Some(relation) = root.message(rt.alloc(), 1, Shape::Rel)? else {
+    let Some(relation) = root.message().merged(rt.alloc(), 1, Shape::Rel)? else {
         return Ok((0, 0));
     };
-    let Some((number, won)) = relation.oneof(rt.alloc(), OneOf::RelType)? else {
+    let Some((number, won)) = relation.message().oneof(OneOf::RelType) else {
         return Ok((0, 0));
     };
-    let Some(read) = won.message(rt.alloc(), 1, Shape::ReadRel)? else {
+    let Some(read) = won.merged(rt.alloc(), 1, Shape::ReadRel)? else {
         return Ok((number, 0));
     };
-    let Some(schema) = read.message(rt.alloc(), 2, Shape::NamedStruct)? else {
+    let Some(schema) = read.message().merged(rt.alloc(), 2, Shape::NamedStruct)? else {
         return Ok((number, 0));
     };
-    Ok((number, schema.texts(rt.alloc(), 1)?.len()))
+    Ok((number, schema.message().texts(rt.alloc(), 1)?.len()))
 }
 
 #[test]
@@ -252,24 +252,24 @@ fn the_second_read_alone(rt: HostRuntime) -> Result<(), Fail> {
 
 // The number of the winner among the members of the literal in the condition of a filter, or 0 where it has none.
 fn literal_of(rt: &HostRuntime, bytes: &[u8]) -> Result<u32, Fail> {
-    let plan = plan(rt, bytes)?;
+    let plan = plan(bytes)?;
     let mut relations = plan.children(3, Shape::PlanRel);
-    let Some(relation) = relations.next(rt.alloc()) else {
+    let Some(relation) = relations.next() else {
         return Ok(0);
     };
-    let Some(rel) = relation.message(rt.alloc(), 1, Shape::Rel)? else {
+    let Some(rel) = relation.merged(rt.alloc(), 1, Shape::Rel)? else {
         return Ok(0);
     };
-    let Some(filter) = rel.message(rt.alloc(), 2, Shape::FilterRel)? else {
+    let Some(filter) = rel.message().merged(rt.alloc(), 2, Shape::FilterRel)? else {
         return Ok(0);
     };
-    let Some(condition) = filter.message(rt.alloc(), 3, Shape::Expression)? else {
+    let Some(condition) = filter.message().merged(rt.alloc(), 3, Shape::Expression)? else {
         return Ok(0);
     };
-    let Some(literal) = condition.message(rt.alloc(), 1, Shape::Literal)? else {
+    let Some(literal) = condition.message().merged(rt.alloc(), 1, Shape::Literal)? else {
         return Ok(0);
     };
-    match literal.oneof(rt.alloc(), OneOf::LiteralType)? {
+    match literal.message().oneof(OneOf::LiteralType) {
         Some((number, _)) => Ok(number),
         None => Ok(0),
     }

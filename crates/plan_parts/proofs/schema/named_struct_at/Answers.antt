@@ -4,5 +4,5 @@ use Rattle.plan_parts.proofs.schema.named_struct_at.Goals as goal
 
 pub returns-in_ok-named_struct-in-Some : goal.returns-in_ok-named_struct-in-Some
 returns-in_ok-named_struct-in-Some c =
-    read_part c.args.message.now c.in_ok-message.field-0 c.in-Some.schema s.NamedStruct c.args.number c.in_ok-named_struct-in-Some.field-0
-    c.in-Some.is c.in_ok-message.ensures.bytes c.in_ok-message.ensures.below c.in_ok-named_struct-in-Some.ensures
+    read_part c.args.message.now c.in_ok-merged.field-0 c.in-Some.schema s.NamedStruct c.args.number c.in_ok-named_struct-in-Some.field-0
+    c.in-Some.is c.in_ok-merged.ensures.bytes c.in_ok-merged.ensures.below c.message.ensures c.in_ok-named_struct-in-Some.ensures

@@ -7,8 +7,8 @@ use Rattle.plan_parts.proofs.types.+types.Goals as goal
 
 pub member-returns-in_ok-struct_type-in-Some : goal.member-returns-in_ok-struct_type-in-Some
 member-returns-in_ok-struct_type-in-Some t c =
-    let found = read_part c.args.won.now c.in_ok-message-in-25.field-0 c.in-Some.inner s.StructType 25 c.in_ok-struct_type-in-Some.field-0
-    c.in-Some.is c.in_ok-message-in-25.ensures.bytes c.in_ok-message-in-25.ensures.below c.in_ok-struct_type-in-Some.ensures in
+    let found = read_part c.args.won.now c.in_ok-merged-in-25.field-0 c.in-Some.inner s.StructType 25 c.in_ok-struct_type-in-Some.field-0
+    c.in-Some.is c.in_ok-merged-in-25.ensures.bytes c.in_ok-merged-in-25.ensures.below c.message.ensures c.in_ok-struct_type-in-Some.ensures in
     rw c.in-25.is (ap (λ o. option_map_or (λ inner. types.Struct inner.types) o types.Missing) found)
 
 pub struct_type-loop-ty-preserved : goal.struct_type-loop-ty-preserved

@@ -1,8 +1,7 @@
-use Rattle.std.proofs.Common.{◌≡◌, ◌∙◌, ◌∷◌, ◌++◌, ◌<◌, ◌-◌, suc, sym, ap, true, arith, append-nil}
-use Rattle.std.specs.List.{list_all, concat}
+use Rattle.std.proofs.Common.{◌≡◌, ◌∙◌, ◌∷◌, ◌<◌, ◌-◌, suc, sym, ap, refl, true, arith, append-nil}
+use Rattle.std.specs.List.{list_all}
 use Rattle.std.proofs.lemmas.Bool.{and_parts, and_from}
 use Rattle.plan_scan.specs.Scanned.{Scanned, Left, is_readable}
-use Rattle.plan_scan.specs.Pieces.{pieces_of}
 use Rattle.plan_scan.proofs.PieceLaws.{level_left}
 use Rattle.plan_scan.proofs.children.Children.next.Goals as goal
 use Rattle.plan_scan.proofs.children.Children.next.Goals.{In_ok-block}
@@ -21,9 +20,7 @@ pub of_pieces-requires : goal.of_pieces-requires
 of_pieces-requires c =
     let here : In_ok-block = (goal.at.of_pieces-requires c).In_ok-block in
     let levels : suc (c.self.inside.above - 1) ≡ c.self.inside.above = omega (arith, some_left here) in
-    and_from _ _
-    (ap (λ n. is_readable n c.self.inside.shape c.in_ok-block.block.now) levels ∙ (and_parts _ _ (all_left here)).0)
-    (ap (λ items. list_all (is_readable (suc (c.self.inside.above - 1)) c.self.inside.shape) (pieces_of items)) c.new.ensures.items)
+    and_from _ _ (ap (λ n. is_readable n c.self.inside.shape c.in_ok-block.block.now) levels ∙ (and_parts _ _ (all_left here)).0) refl
 
 pub returns : goal.returns
 returns c =
@@ -31,7 +28,7 @@ returns c =
     let shape = ap (λ (left : Left). left.shape) c.self.view_is in
     let above = ap (λ (left : Left). left.above) c.self.view_is in
     let bytes : c.of_pieces.result.bytes ≡ c.in_ok-block.block.now =
-    ap (λ (m : Scanned). m.bytes) c.of_pieces.ensures ∙ ap (λ items. c.in_ok-block.block.now ++ concat (pieces_of items)) c.new.ensures.items ∙ append-nil c.in_ok-block.block.now in (
+    ap (λ (m : Scanned). m.bytes) c.of_pieces.ensures ∙ append-nil c.in_ok-block.block.now in (
       ap (λ (m : Scanned). m.shape) c.of_pieces.ensures ∙ shape,
       omega (arith, ap (λ (m : Scanned). m.below) c.of_pieces.ensures, some_left here, above),
       sym (ap (λ (left : Left). left.blocks) c.self.view_is) ∙ c.in_ok-block.ensures.given ∙ ap (λ b. b ∷ c.next.new.self) (sym bytes),

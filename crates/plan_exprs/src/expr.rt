@@ -1,0 +1,243 @@
+// Expressions (Substrait `Expression`).
+ghost use Rattle.std.specs.Prelude.{◌≡◌, ◌≤◌, IfOk};
+ghost use Rattle.pb_wire.specs.Payloads.{fields_of};
+ghost use Rattle.plan_scan.specs.Table.{HoldsMessage};
+ghost use Rattle.plan_parts.specs.Shapes.{children};
+ghost use Rattle.plan_parts.specs.Exprs as exprs;
+ghost use Rattle.plan_parts.specs.Reader.{reader};
+
+use crate::subquery::subquery;
+use plan_leaves::{Items, zip};
+use plan_parts::{
+    Deeper, arguments_at, boxed_expr_at, expr_at, exprs_at, literal_at, options_at, selection,
+    type_at,
+};
+use plan_raw::{IfClause, IfValue, RawExpr};
+use plan_scan::{Message, OneOf, Shape};
+use std::alloc::Global;
+use sub_types::NoMemory;
+
+/// An `Expression`, whose relations and expressions are read by another reader.
+pub fn expression_by<D: Deeper>(
+    alloc: Global,
+    deeper: &D,
+    message: &Message<'_>,
+) -> Result<RawExpr, NoMemory>
+    requires shape { message.now.shape ≡ Shape.Expression }
+    requires ready { D.is_ready deeper.now }
+    requires deeper { message.now.below ≤ D.levels deeper.now }
+    ensures { IfOk result (λ expr. expr ≡ exprs.expression_by (reader message.now.below) (fields_of message.now.bytes)) }
+{
+    match message.oneof(OneOf::RexType) {
+        None => Ok(RawExpr::Missing),
+        Some((number, won)) => member(alloc, deeper, number, &won),
+    }
+}
+
+fn member<D: Deeper>(
+    alloc: Global,
+    deeper: &D,
+    number: u32,
+    won: &Message<'_>,
+) -> Result<RawExpr, NoMemory>
+    requires shape { won.now.shape ≡ Shape.Expression }
+    requires ready { D.is_ready deeper.now }
+    requires deeper { won.now.below ≤ D.levels deeper.now }
+    ensures { IfOk result (λ expr. expr ≡ exprs.expression_member (reader won.now.below) number (fields_of won.now.bytes)) }
+{
+    match number {
+        1 => match literal_at(alloc, won, 1)? {
+            None => Ok(RawExpr::Missing),
+            Some(literal) => Ok(RawExpr::Literal(literal)),
+        },
+        2 => match won.merged(alloc, 2, Shape::FieldReference)? {
+            None => Ok(RawExpr::Missing),
+            Some(found) => selection(alloc, &found.message()),
+        },
+        3 => match won.merged(alloc, 3, Shape::ScalarFunction)? {
+            None => Ok(RawExpr::Missing),
+            Some(found) => scalar_function(alloc, deeper, &found.message()),
+        },
+        6 => match won.merged(alloc, 6, Shape::IfThen)? {
+            None => Ok(RawExpr::Missing),
+            Some(found) => if_then(alloc, deeper, &found.message()),
+        },
+        7 => match won.merged(alloc, 7, Shape::SwitchExpression)? {
+            None => Ok(RawExpr::Missing),
+            Some(found) => switch(alloc, deeper, &found.message()),
+        },
+        8 => match won.merged(alloc, 8, Shape::SingularOrList)? {
+            None => Ok(RawExpr::Missing),
+            Some(found) => singular_or_list(alloc, deeper, &found.message()),
+        },
+        11 => match won.merged(alloc, 11, Shape::Cast)? {
+            None => Ok(RawExpr::Missing),
+            Some(found) => cast(alloc, deeper, &found.message()),
+        },
+        12 => match won.merged(alloc, 12, Shape::Subquery)? {
+            None => Ok(RawExpr::Missing),
+            Some(found) => subquery(alloc, deeper, &found.message()),
+        },
+        _ => Ok(RawExpr::Unknown { number }),
+    }
+}
+
+fn scalar_function<D: Deeper>(
+    alloc: Global,
+    deeper: &D,
+    message: &Message<'_>,
+) -> Result<RawExpr, NoMemory>
+    requires shape { message.now.shape ≡ Shape.ScalarFunction }
+    requires ready { D.is_ready deeper.now }
+    requires deeper { message.now.below ≤ D.levels deeper.now }
+    ensures { IfOk result (λ expr. expr ≡ exprs.scalar_function_by (reader message.now.below) (fields_of message.now.bytes)) }
+{
+    let (output_type, (arguments, options)) = zip(
+        type_at(alloc, message, 3),
+        zip(
+            arguments_at(alloc, deeper, message, 4),
+            options_at(alloc, message, 5),
+        ),
+    )?;
+    Ok(RawExpr::ScalarFunction {
+        function_reference: message.uint32(1),
+        output_type,
+        arguments,
+        options,
+    })
+}
+
+fn if_then<D: Deeper>(alloc: Global, deeper: &D, message: &Message<'_>) -> Result<RawExpr, NoMemory>
+    requires shape { message.now.shape ≡ Shape.IfThen }
+    requires ready { D.is_ready deeper.now }
+    requires deeper { message.now.below ≤ D.levels deeper.now }
+    ensures { IfOk result (λ expr. expr ≡ exprs.if_then_by (reader message.now.below) (fields_of message.now.bytes)) }
+{
+    let (ifs, else_) = zip(
+        if_clauses_at(alloc, deeper, message, 1),
+        boxed_expr_at(alloc, deeper, message, 2),
+    )?;
+    Ok(RawExpr::IfThen { ifs, else_ })
+}
+
+fn if_clauses_at<D: Deeper>(
+    alloc: Global,
+    deeper: &D,
+    message: &Message<'_>,
+    number: u32,
+) -> Result<Items<IfClause>, NoMemory>
+    requires shape { HoldsMessage message.now.shape number Shape.IfClause }
+    requires ready { D.is_ready deeper.now }
+    requires deeper { message.now.below ≤ D.levels deeper.now }
+    ensures { IfOk result (λ clauses. clauses ≡ children (reader message.now.below) Shape.IfClause number (fields_of message.now.bytes)) }
+{
+    let mut clauses = Vec::new(alloc);
+    let mut left = message.children(number, Shape::IfClause);
+    while let Some(found) = left.next() {
+        clauses.push(if_clause(alloc, deeper, &found)?)?;
+    }
+    Ok(Items::from_vec(clauses))
+}
+
+fn if_clause<D: Deeper>(
+    alloc: Global,
+    deeper: &D,
+    message: &Message<'_>,
+) -> Result<IfClause, NoMemory>
+    requires shape { message.now.shape ≡ Shape.IfClause }
+    requires ready { D.is_ready deeper.now }
+    requires deeper { message.now.below ≤ D.levels deeper.now }
+    ensures { IfOk result (λ clause. clause ≡ exprs.if_clause_by (reader message.now.below) (fields_of message.now.bytes)) }
+{
+    let (if_, then) = zip(
+        expr_at(alloc, deeper, message, 1),
+        expr_at(alloc, deeper, message, 2),
+    )?;
+    Ok(IfClause { if_, then })
+}
+
+fn switch<D: Deeper>(alloc: Global, deeper: &D, message: &Message<'_>) -> Result<RawExpr, NoMemory>
+    requires shape { message.now.shape ≡ Shape.SwitchExpression }
+    requires ready { D.is_ready deeper.now }
+    requires deeper { message.now.below ≤ D.levels deeper.now }
+    ensures { IfOk result (λ expr. expr ≡ exprs.switch_by (reader message.now.below) (fields_of message.now.bytes)) }
+{
+    let (ifs, (else_, match_)) = zip(
+        if_values_at(alloc, deeper, message, 1),
+        zip(
+            boxed_expr_at(alloc, deeper, message, 2),
+            boxed_expr_at(alloc, deeper, message, 3),
+        ),
+    )?;
+    Ok(RawExpr::SwitchExpression { ifs, else_, match_ })
+}
+
+fn if_values_at<D: Deeper>(
+    alloc: Global,
+    deeper: &D,
+    message: &Message<'_>,
+    number: u32,
+) -> Result<Items<IfValue>, NoMemory>
+    requires shape { HoldsMessage message.now.shape number Shape.IfValue }
+    requires ready { D.is_ready deeper.now }
+    requires deeper { message.now.below ≤ D.levels deeper.now }
+    ensures { IfOk result (λ values. values ≡ children (reader message.now.below) Shape.IfValue number (fields_of message.now.bytes)) }
+{
+    let mut values = Vec::new(alloc);
+    let mut left = message.children(number, Shape::IfValue);
+    while let Some(found) = left.next() {
+        values.push(if_value(alloc, deeper, &found)?)?;
+    }
+    Ok(Items::from_vec(values))
+}
+
+fn if_value<D: Deeper>(
+    alloc: Global,
+    deeper: &D,
+    message: &Message<'_>,
+) -> Result<IfValue, NoMemory>
+    requires shape { message.now.shape ≡ Shape.IfValue }
+    requires ready { D.is_ready deeper.now }
+    requires deeper { message.now.below ≤ D.levels deeper.now }
+    ensures { IfOk result (λ value. value ≡ exprs.if_value_by (reader message.now.below) (fields_of message.now.bytes)) }
+{
+    let (if_, then) = zip(
+        literal_at(alloc, message, 1),
+        expr_at(alloc, deeper, message, 2),
+    )?;
+    Ok(IfValue { if_, then })
+}
+
+fn singular_or_list<D: Deeper>(
+    alloc: Global,
+    deeper: &D,
+    message: &Message<'_>,
+) -> Result<RawExpr, NoMemory>
+    requires shape { message.now.shape ≡ Shape.SingularOrList }
+    requires ready { D.is_ready deeper.now }
+    requires deeper { message.now.below ≤ D.levels deeper.now }
+    ensures { IfOk result (λ expr. expr ≡ exprs.singular_or_list_by (reader message.now.below) (fields_of message.now.bytes)) }
+{
+    let (value, options) = zip(
+        boxed_expr_at(alloc, deeper, message, 1),
+        exprs_at(alloc, deeper, message, 2),
+    )?;
+    Ok(RawExpr::SingularOrList { value, options })
+}
+
+fn cast<D: Deeper>(alloc: Global, deeper: &D, message: &Message<'_>) -> Result<RawExpr, NoMemory>
+    requires shape { message.now.shape ≡ Shape.Cast }
+    requires ready { D.is_ready deeper.now }
+    requires deeper { message.now.below ≤ D.levels deeper.now }
+    ensures { IfOk result (λ expr. expr ≡ exprs.cast_by (reader message.now.below) (fields_of message.now.bytes)) }
+{
+    let (type_, input) = zip(
+        type_at(alloc, message, 1),
+        boxed_expr_at(alloc, deeper, message, 2),
+    )?;
+    Ok(RawExpr::Cast {
+        type_,
+        input,
+        failure_behavior: message.uint32(3),
+    })
+}
