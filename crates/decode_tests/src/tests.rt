@@ -1,4 +1,5 @@
 // Plans against trees that were worked out by hand.
+mod cut;
 mod flaws;
 mod plans;
 mod seen;

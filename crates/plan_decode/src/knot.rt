@@ -10,27 +10,27 @@ use crate::readers::Readers;
 use plan_exprs::expression_by;
 use plan_raw::{RawExpr, RawRel};
 use plan_rels::relation_by;
-use plan_scan::{Message, Shape};
+use plan_scan::{Choice, OneOf};
 use std::alloc::Global;
 use sub_types::NoMemory;
 
 /// A `Rel`.
 #[cycle(tree)]
-pub(crate) fn relation(alloc: Global, message: &Message<'_>) -> Result<RawRel, NoMemory>
-    requires { message.now.shape ≡ Shape.Rel }
-    ensures { IfOk result (λ rel. rel ≡ rel_by (reader message.now.below) (fields_of message.now.bytes)) }
+pub(crate) fn relation(alloc: Global, choice: &Choice<'_>) -> Result<RawRel, NoMemory>
+    requires { choice.now.oneof ≡ OneOf.RelType }
+    ensures { IfOk result (λ rel. rel ≡ rel_by (reader choice.now.below) (fields_of choice.now.bytes)) }
 {
-    let levels = message.below();
-    let rel = |alloc: Global, inner: &Message<'_>| -> Result<RawRel, NoMemory>
-        requires shape { inner.now.shape ≡ Shape.Rel }
+    let levels = choice.below();
+    let rel = |alloc: Global, inner: &Choice<'_>| -> Result<RawRel, NoMemory>
+        requires oneof { inner.now.oneof ≡ OneOf.RelType }
         requires deeper { inner.now.below < levels }
         ensures { IfOk result (λ rel. rel ≡ rel_by (reader inner.now.below) (fields_of inner.now.bytes)) }
     {
         let _ = &levels;
         relation(alloc, inner)
     };
-    let expr = |alloc: Global, inner: &Message<'_>| -> Result<RawExpr, NoMemory>
-        requires shape { inner.now.shape ≡ Shape.Expression }
+    let expr = |alloc: Global, inner: &Choice<'_>| -> Result<RawExpr, NoMemory>
+        requires oneof { inner.now.oneof ≡ OneOf.RexType }
         requires deeper { inner.now.below < levels }
         ensures { IfOk result (λ expr. expr ≡ expr_by (reader inner.now.below) (fields_of inner.now.bytes)) }
     {
@@ -38,26 +38,26 @@ pub(crate) fn relation(alloc: Global, message: &Message<'_>) -> Result<RawRel, N
         expression(alloc, inner)
     };
     let readers = Readers { levels, rel, expr };
-    relation_by(alloc, &readers, message)
+    relation_by(alloc, &readers, choice)
 }
 
 /// An `Expression`.
 #[cycle(tree)]
-pub(crate) fn expression(alloc: Global, message: &Message<'_>) -> Result<RawExpr, NoMemory>
-    requires { message.now.shape ≡ Shape.Expression }
-    ensures { IfOk result (λ expr. expr ≡ expr_by (reader message.now.below) (fields_of message.now.bytes)) }
+pub(crate) fn expression(alloc: Global, choice: &Choice<'_>) -> Result<RawExpr, NoMemory>
+    requires { choice.now.oneof ≡ OneOf.RexType }
+    ensures { IfOk result (λ expr. expr ≡ expr_by (reader choice.now.below) (fields_of choice.now.bytes)) }
 {
-    let levels = message.below();
-    let rel = |alloc: Global, inner: &Message<'_>| -> Result<RawRel, NoMemory>
-        requires shape { inner.now.shape ≡ Shape.Rel }
+    let levels = choice.below();
+    let rel = |alloc: Global, inner: &Choice<'_>| -> Result<RawRel, NoMemory>
+        requires oneof { inner.now.oneof ≡ OneOf.RelType }
         requires deeper { inner.now.below < levels }
         ensures { IfOk result (λ rel. rel ≡ rel_by (reader inner.now.below) (fields_of inner.now.bytes)) }
     {
         let _ = &levels;
         relation(alloc, inner)
     };
-    let expr = |alloc: Global, inner: &Message<'_>| -> Result<RawExpr, NoMemory>
-        requires shape { inner.now.shape ≡ Shape.Expression }
+    let expr = |alloc: Global, inner: &Choice<'_>| -> Result<RawExpr, NoMemory>
+        requires oneof { inner.now.oneof ≡ OneOf.RexType }
         requires deeper { inner.now.below < levels }
         ensures { IfOk result (λ expr. expr ≡ expr_by (reader inner.now.below) (fields_of inner.now.bytes)) }
     {
@@ -65,5 +65,5 @@ pub(crate) fn expression(alloc: Global, message: &Message<'_>) -> Result<RawExpr
         expression(alloc, inner)
     };
     let readers = Readers { levels, rel, expr };
-    expression_by(alloc, &readers, message)
+    expression_by(alloc, &readers, choice)
 }

@@ -98,8 +98,8 @@ fn input_at(alloc: Global, message: &Message<'_>) -> Result<Option<Boxed<RawRel>
     requires { message.now.shape ≡ Shape.RelRoot }
     ensures { IfOk result (λ input. input ≡ child (reader message.now.below) Shape.Rel 1 (fields_of message.now.bytes)) }
 {
-    match message.merged(alloc, 1, Shape::Rel)? {
+    match message.choice_at(alloc, 1, OneOf::RelType)? {
         None => Ok(None),
-        Some(found) => Ok(Some(Boxed::new(alloc, relation(alloc, &found.message())?)?)),
+        Some(found) => Ok(Some(Boxed::new(alloc, relation(alloc, &found)?)?)),
     }
 }

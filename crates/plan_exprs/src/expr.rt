@@ -5,15 +5,16 @@ ghost use Rattle.plan_scan.specs.Table.{HoldsMessage};
 ghost use Rattle.plan_parts.specs.Shapes.{children};
 ghost use Rattle.plan_parts.specs.Exprs as exprs;
 ghost use Rattle.plan_parts.specs.Reader.{reader};
+ghost use Rattle.plan_exprs.specs.Member.{expr_in};
 
 use crate::subquery::subquery;
 use plan_leaves::{Items, zip};
 use plan_parts::{
-    Deeper, arguments_at, boxed_expr_at, expr_at, exprs_at, literal_at, options_at, selection,
-    type_at,
+    Deeper, arguments_at, boxed_expr_at, expr_at, exprs_at, literal_at, literal_of, options_at,
+    selection, type_at,
 };
 use plan_raw::{IfClause, IfValue, RawExpr};
-use plan_scan::{Message, OneOf, Shape};
+use plan_scan::{Choice, Message, OneOf, Shape};
 use std::alloc::Global;
 use sub_types::NoMemory;
 
@@ -21,63 +22,41 @@ use sub_types::NoMemory;
 pub fn expression_by<D: Deeper>(
     alloc: Global,
     deeper: &D,
-    message: &Message<'_>,
+    choice: &Choice<'_>,
 ) -> Result<RawExpr, NoMemory>
-    requires shape { message.now.shape ≡ Shape.Expression }
+    requires oneof { choice.now.oneof ≡ OneOf.RexType }
     requires ready { D.is_ready deeper.now }
-    requires deeper { message.now.below ≤ D.levels deeper.now }
-    ensures { IfOk result (λ expr. expr ≡ exprs.expression_by (reader message.now.below) (fields_of message.now.bytes)) }
+    requires deeper { choice.now.below ≤ D.levels deeper.now }
+    ensures { IfOk result (λ expr. expr ≡ exprs.expression_by (reader choice.now.below) (fields_of choice.now.bytes)) }
 {
-    match message.oneof(OneOf::RexType) {
+    match choice.winner() {
         None => Ok(RawExpr::Missing),
-        Some((number, won)) => member(alloc, deeper, number, &won),
+        Some((number, None)) => Ok(RawExpr::Unknown { number }),
+        Some((number, Some(message))) => member(alloc, deeper, number, &message),
     }
 }
 
+// The message of the member of this number.
 fn member<D: Deeper>(
     alloc: Global,
     deeper: &D,
     number: u32,
-    won: &Message<'_>,
+    message: &Message<'_>,
 ) -> Result<RawExpr, NoMemory>
-    requires shape { won.now.shape ≡ Shape.Expression }
+    requires shape { HoldsMessage Shape.Expression number message.now.shape }
     requires ready { D.is_ready deeper.now }
-    requires deeper { won.now.below ≤ D.levels deeper.now }
-    ensures { IfOk result (λ expr. expr ≡ exprs.expression_member (reader won.now.below) number (fields_of won.now.bytes)) }
+    requires deeper { message.now.below ≤ D.levels deeper.now }
+    ensures { IfOk result (λ expr. expr ≡ expr_in (reader message.now.below) number (fields_of message.now.bytes)) }
 {
     match number {
-        1 => match literal_at(alloc, won, 1)? {
-            None => Ok(RawExpr::Missing),
-            Some(literal) => Ok(RawExpr::Literal(literal)),
-        },
-        2 => match won.merged(alloc, 2, Shape::FieldReference)? {
-            None => Ok(RawExpr::Missing),
-            Some(found) => selection(alloc, &found.message()),
-        },
-        3 => match won.merged(alloc, 3, Shape::ScalarFunction)? {
-            None => Ok(RawExpr::Missing),
-            Some(found) => scalar_function(alloc, deeper, &found.message()),
-        },
-        6 => match won.merged(alloc, 6, Shape::IfThen)? {
-            None => Ok(RawExpr::Missing),
-            Some(found) => if_then(alloc, deeper, &found.message()),
-        },
-        7 => match won.merged(alloc, 7, Shape::SwitchExpression)? {
-            None => Ok(RawExpr::Missing),
-            Some(found) => switch(alloc, deeper, &found.message()),
-        },
-        8 => match won.merged(alloc, 8, Shape::SingularOrList)? {
-            None => Ok(RawExpr::Missing),
-            Some(found) => singular_or_list(alloc, deeper, &found.message()),
-        },
-        11 => match won.merged(alloc, 11, Shape::Cast)? {
-            None => Ok(RawExpr::Missing),
-            Some(found) => cast(alloc, deeper, &found.message()),
-        },
-        12 => match won.merged(alloc, 12, Shape::Subquery)? {
-            None => Ok(RawExpr::Missing),
-            Some(found) => subquery(alloc, deeper, &found.message()),
-        },
+        1 => Ok(RawExpr::Literal(literal_of(alloc, message)?)),
+        2 => selection(alloc, message),
+        3 => scalar_function(alloc, deeper, message),
+        6 => if_then(alloc, deeper, message),
+        7 => switch(alloc, deeper, message),
+        8 => singular_or_list(alloc, deeper, message),
+        11 => cast(alloc, deeper, message),
+        12 => subquery(alloc, deeper, message),
         _ => Ok(RawExpr::Unknown { number }),
     }
 }

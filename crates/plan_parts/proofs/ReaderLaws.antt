@@ -1,11 +1,16 @@
 -- How messages are found one level further down, and how the messages of a field are read one by one.
-use Rattle.std.proofs.Common.{◌≡◌, ◌∙◌, ℕ, ◌+◌, List, [], ◌∷◌, ◌++◌, true, false, cond, nat_eq, Option, Some, Result, Ok, Err, IfSome, IfOk, unwrap_or, refl, sym, ap, subst, append_assoc, add-one}
+use Rattle.std.proofs.Common.{◌≡◌, ◌∙◌, ℕ, ◌+◌, List, [], ◌∷◌, ◌++◌, true, false, cond, nat_eq, Option, Some, None, is_some, Result, Ok, Err, IfSome, IfOk, unwrap_or, refl, sym, ap, subst, append_assoc, add-one}
 use Rattle.std.specs.List.{filter_map}
-use Rattle.std.proofs.lemmas.Bool.{eqb-true}
-use Rattle.std.specs.Option.{option_map, option_and_then}
-use Rattle.pb_wire.specs.Payloads.{Field, fields_of, merged_message}
+use Rattle.std.proofs.lemmas.Bool.{eqb-true, ne_eqb}
+use Rattle.std.specs.Option.{option_map, option_map_or, option_and_then}
+use Rattle.pb_wire.specs.Payloads.{Field, Member, fields_of, merged_message, chosen_member}
 use Rattle.plan_scan.specs.declared.shape.Shape.{Shape}
 use Rattle.plan_scan.specs.Scanned.{Scanned, Left, IsNextChild}
+use Rattle.plan_scan.specs.declared.oneof.OneOf.{OneOf}
+use Rattle.plan_scan.specs.Table.{use_of, HoldsMessage}
+use Rattle.plan_scan.specs.Member.{is_member, owner}
+use Rattle.plan_scan.specs.Choice.{Chosen, IsWonMessage, won_of, where_message}
+use Rattle.plan_scan.proofs.MemberLaws.{winner_there}
 use Rattle.plan_parts.specs.Shapes.{Tree, child}
 use Rattle.plan_parts.specs.Reader.{tree_by, reader}
 
@@ -14,6 +19,15 @@ pub reader-child : (below above : ℕ) (shape : Shape) (fields : List Field) →
 unfolding reader
 reader-child below above shape fields one = let P : ℕ → Type 0 = λ n. reader n shape fields ≡ Some (tree_by (reader below) shape fields) in
     subst P (sym (add-one below) ∙ one) refl
+
+-- the message of a singular field, and what it was read as
+part_at : (m : Scanned) (below : ℕ) (bytes : List ℕ) (shape : Shape) (number : ℕ) (x : Tree shape) →
+    below + 1 ≡ m.below →
+    Some bytes ≡ merged_message number (fields_of m.bytes) →
+    x ≡ tree_by (reader below) shape (fields_of bytes) →
+    Some x ≡ child (reader m.below) shape number (fields_of m.bytes)
+part_at m below bytes shape number x one merged read =
+    ap Some read ∙ sym (reader-child below m.below shape (fields_of bytes) one) ∙ ap (λ o. option_and_then (λ b. reader m.below shape (fields_of b)) o) merged
 
 -- the message of a singular field that was found, as it was seen, and what it was read as
 pub read_part : (m : Scanned) (found : Option Scanned) (part : Scanned) {seen : Scanned} (shape : Shape) (number : ℕ) (x : Tree shape) →
@@ -27,7 +41,18 @@ read_part m found part shape number x is bytes below same read =
     let P : Option Scanned → Type 0 = λ o. IfSome o (λ inner. inner.below + 1 ≡ m.below) in
     let one : part.below + 1 ≡ m.below = subst P is below in
     let merged : Some part.bytes ≡ merged_message number (fields_of m.bytes) = ap (option_map (λ (inner : Scanned). inner.bytes)) (sym is) ∙ bytes in
-    ap Some (read ∙ ap (λ (inner : Scanned). tree_by (reader inner.below) shape (fields_of inner.bytes)) same) ∙ sym (reader-child part.below m.below shape (fields_of part.bytes) one) ∙ ap (λ o. option_and_then (λ b. reader m.below shape (fields_of b)) o) merged
+    part_at m part.below part.bytes shape number x one merged (read ∙ ap (λ (inner : Scanned). tree_by (reader inner.below) shape (fields_of inner.bytes)) same)
+
+-- the same of a message that is a oneof of messages
+pub read_choice : (m : Scanned) (found : Option Chosen) (part : Chosen) (shape : Shape) (number : ℕ) (x : Tree shape) →
+    found ≡ Some part →
+    option_map (λ (inner : Chosen). inner.bytes) found ≡ merged_message number (fields_of m.bytes) →
+    IfSome found (λ inner. inner.below + 1 ≡ m.below) →
+    x ≡ tree_by (reader part.below) shape (fields_of part.bytes) →
+    Some x ≡ child (reader m.below) shape number (fields_of m.bytes)
+read_choice m found part shape number x is bytes below read =
+    let P : Option Chosen → Type 0 = λ o. IfSome o (λ inner. inner.below + 1 ≡ m.below) in
+    part_at m part.below part.bytes shape number x (subst P is below) (ap (option_map (λ (inner : Chosen). inner.bytes)) (sym is) ∙ bytes) read
 
 -- the messages of a field that are left, as they will be read
 abbrev pub left_of : ℕ → (shape : Shape) → List (List ℕ) → List (Tree shape)
@@ -70,3 +95,35 @@ pub found_is : (below above : ℕ) (shape : Shape) (number this : ℕ) (fields :
 found_is below above shape number this fields bytes missing one same merged =
     let here : merged_message this fields ≡ Some bytes = ap (λ n. merged_message n fields) (sym same) ∙ merged in
     ap (λ o. unwrap_or (option_and_then (λ b. reader above shape (fields_of b)) o) missing) here ∙ ap (λ o. unwrap_or o missing) (reader-child below above shape (fields_of bytes) one)
+
+-- a choice by a number that isn't this one
+pub not_this : {A : Type 0} (number this : ℕ) (x others other : A) → (number ≡ this → ⊥) → others ≡ other → cond (nat_eq number this) x others ≡ other
+not_this number this x others other differ rest = ap (λ b. cond b x others) (ne_eqb number this differ) ∙ rest
+
+-- what a message that is a oneof of messages is read as, by its winner
+pub read_winner : {A : Type 0} (read : ℕ → List Field → A) (missing : A) (won : Option Member) (number : ℕ) (x : A) → (won_of won).number ≡ Some number →
+    ((member : Member) → won ≡ Some member → member.number ≡ number → x ≡ read number member.records) → x ≡ option_map_or (λ member. read member.number member.records) won missing
+read_winner read missing None number x is same = absurd (cc)
+read_winner read missing (Some member) number x is same =
+    let here : member.number ≡ number = cc in
+    same member refl here ∙ ap (λ n. read n member.records) (sym here)
+
+-- where there is no winner
+pub read_none : {A : Type 0} (read : ℕ → List Field → A) (missing : A) (won : Option Member) → (won_of won).number ≡ None → missing ≡ option_map_or (λ member. read member.number member.records) won missing
+read_none read missing None is = refl
+read_none read missing (Some member) is = absurd (cc)
+
+-- the winner's message is found among its records
+pub won_merged : (oneof : OneOf) (below number : ℕ) (member : Member) (message : Scanned) → IsWonMessage oneof below (won_of (Some member)) (Some message) → member.number ≡ number → merged_message number member.records ≡ Some message.bytes
+won_merged oneof below number member message is here =
+    ap (λ n. merged_message n member.records) (sym here) ∙ sym (is.bytes ∙ ap (λ holds. where_message holds (merged_message member.number member.records)) is.shape)
+
+-- a winner without a message isn't that of a named field
+pub not_named : (oneof : OneOf) (below number : ℕ) (inner : Shape) (fields : List Field) (member : Member) → chosen_member (is_member oneof) fields ≡ Some member → member.number ≡ number →
+    IsWonMessage oneof below (won_of (Some member)) None → HoldsMessage (owner oneof) number inner → ⊥
+not_named oneof below number inner fields member chosen here is holds =
+    let named : HoldsMessage (owner oneof) member.number inner = ap (use_of (owner oneof)) here ∙ holds in
+    let none : None ≡ merged_message member.number member.records = is.bytes ∙ ap (λ holding. where_message holding (merged_message member.number member.records)) named in
+    let some : is_some (merged_message member.number member.records) ≡ true = winner_there oneof inner fields member chosen named in
+    let both : false ≡ true = ap is_some none ∙ some in
+    cc

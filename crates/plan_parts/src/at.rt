@@ -1,14 +1,16 @@
 // The relations and expressions in a field of a message.
-ghost use Rattle.std.specs.Prelude.{◌≡◌, ◌≤◌, IfOk};
+ghost use Rattle.std.specs.Prelude.{◌≡◌, ◌<◌, ◌≤◌, IfOk};
 ghost use Rattle.pb_wire.specs.Payloads.{fields_of};
 ghost use Rattle.plan_scan.specs.Table.{HoldsMessage};
 ghost use Rattle.plan_parts.specs.Shapes.{child, children};
+ghost use Rattle.plan_parts.specs.Rels.{rel_by};
+ghost use Rattle.plan_parts.specs.Exprs.{expression_by};
 ghost use Rattle.plan_parts.specs.Reader.{reader};
 
 use crate::deeper::Deeper;
 use plan_leaves::{Boxed, Items};
 use plan_raw::{RawExpr, RawRel};
-use plan_scan::{Message, Shape};
+use plan_scan::{Message, OneOf, Shape};
 use std::alloc::Global;
 use sub_types::NoMemory;
 
@@ -24,9 +26,9 @@ pub fn expr_at<D: Deeper>(
     requires deeper { message.now.below ≤ D.levels deeper.now }
     ensures { IfOk result (λ expr. expr ≡ child (reader message.now.below) Shape.Expression number (fields_of message.now.bytes)) }
 {
-    match message.merged(alloc, number, Shape::Expression)? {
+    match message.choice_at(alloc, number, OneOf::RexType)? {
         None => Ok(None),
-        Some(found) => Ok(Some(deeper.expression(alloc, &found.message())?)),
+        Some(found) => Ok(Some(deeper.expression(alloc, &found)?)),
     }
 }
 
@@ -63,9 +65,19 @@ pub fn exprs_at<D: Deeper>(
     let mut exprs = Vec::new(alloc);
     let mut left = message.children(number, Shape::Expression);
     while let Some(found) = left.next() {
-        exprs.push(deeper.expression(alloc, &found)?)?;
+        exprs.push(expr_in(alloc, deeper, &found)?)?;
     }
     Ok(Items::from_vec(exprs))
+}
+
+fn expr_in<D: Deeper>(alloc: Global, deeper: &D, message: &Message<'_>) -> Result<RawExpr, NoMemory>
+    requires shape { message.now.shape ≡ Shape.Expression }
+    requires ready { D.is_ready deeper.now }
+    requires deeper { message.now.below < D.levels deeper.now }
+    ensures { IfOk result (λ expr. expr ≡ expression_by (reader message.now.below) (fields_of message.now.bytes)) }
+{
+    let choice = message.choice(alloc, OneOf::RexType)?;
+    deeper.expression(alloc, &choice)
 }
 
 fn relation_at<D: Deeper>(
@@ -79,9 +91,9 @@ fn relation_at<D: Deeper>(
     requires deeper { message.now.below ≤ D.levels deeper.now }
     ensures { IfOk result (λ rel. rel ≡ child (reader message.now.below) Shape.Rel number (fields_of message.now.bytes)) }
 {
-    match message.merged(alloc, number, Shape::Rel)? {
+    match message.choice_at(alloc, number, OneOf::RelType)? {
         None => Ok(None),
-        Some(found) => Ok(Some(deeper.relation(alloc, &found.message())?)),
+        Some(found) => Ok(Some(deeper.relation(alloc, &found)?)),
     }
 }
 
@@ -118,7 +130,17 @@ pub fn rels_at<D: Deeper>(
     let mut rels = Vec::new(alloc);
     let mut left = message.children(number, Shape::Rel);
     while let Some(found) = left.next() {
-        rels.push(deeper.relation(alloc, &found)?)?;
+        rels.push(rel_in(alloc, deeper, &found)?)?;
     }
     Ok(Items::from_vec(rels))
+}
+
+fn rel_in<D: Deeper>(alloc: Global, deeper: &D, message: &Message<'_>) -> Result<RawRel, NoMemory>
+    requires shape { message.now.shape ≡ Shape.Rel }
+    requires ready { D.is_ready deeper.now }
+    requires deeper { message.now.below < D.levels deeper.now }
+    ensures { IfOk result (λ rel. rel ≡ rel_by (reader message.now.below) (fields_of message.now.bytes)) }
+{
+    let choice = message.choice(alloc, OneOf::RelType)?;
+    deeper.relation(alloc, &choice)
 }

@@ -6,7 +6,7 @@ ghost use Rattle.plan_parts.specs.Exprs.{expression_by};
 ghost use Rattle.plan_parts.specs.Reader.{reader};
 
 use plan_raw::{RawExpr, RawRel};
-use plan_scan::{Message, Shape};
+use plan_scan::{Choice, OneOf};
 use std::alloc::Global;
 use sub_types::NoMemory;
 
@@ -20,16 +20,16 @@ pub trait Deeper {
     ghost is_ready: { Self → Type 0 };
 
     /// A `Rel`.
-    fn relation(&self, alloc: Global, message: &Message<'_>) -> Result<RawRel, NoMemory>
+    fn relation(&self, alloc: Global, choice: &Choice<'_>) -> Result<RawRel, NoMemory>
         requires ready { is_ready self.now }
-        requires shape { message.now.shape ≡ Shape.Rel }
-        requires deeper { message.now.below < levels self.now }
-        ensures { IfOk result (λ rel. rel ≡ rel_by (reader message.now.below) (fields_of message.now.bytes)) };
+        requires oneof { choice.now.oneof ≡ OneOf.RelType }
+        requires deeper { choice.now.below < levels self.now }
+        ensures { IfOk result (λ rel. rel ≡ rel_by (reader choice.now.below) (fields_of choice.now.bytes)) };
 
     /// An `Expression`.
-    fn expression(&self, alloc: Global, message: &Message<'_>) -> Result<RawExpr, NoMemory>
+    fn expression(&self, alloc: Global, choice: &Choice<'_>) -> Result<RawExpr, NoMemory>
         requires ready { is_ready self.now }
-        requires shape { message.now.shape ≡ Shape.Expression }
-        requires deeper { message.now.below < levels self.now }
-        ensures { IfOk result (λ expr. expr ≡ expression_by (reader message.now.below) (fields_of message.now.bytes)) };
+        requires oneof { choice.now.oneof ≡ OneOf.RexType }
+        requires deeper { choice.now.below < levels self.now }
+        ensures { IfOk result (λ expr. expr ≡ expression_by (reader choice.now.below) (fields_of choice.now.bytes)) };
 }

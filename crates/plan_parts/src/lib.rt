@@ -21,7 +21,7 @@ pub use common::common_at;
 pub use declared::{functions_at, uris_at};
 pub use deeper::Deeper;
 pub use files::{local_files, named_table};
-pub use literal::{literal_at, literal_rows_at};
+pub use literal::{literal_at, literal_of, literal_rows_at};
 pub use mask::mask_at;
 pub use options::options_at;
 pub use reference::selection;

@@ -24,7 +24,7 @@ pub fn literal_at(
 {
     match message.merged(alloc, number, Shape::Literal)? {
         None => Ok(None),
-        Some(found) => Ok(Some(literal(alloc, &found.message())?)),
+        Some(found) => Ok(Some(literal_of(alloc, &found.message())?)),
     }
 }
 
@@ -52,14 +52,15 @@ fn literal_row(alloc: Global, message: &Message<'_>) -> Result<LiteralRow, NoMem
     let mut fields = Vec::new(alloc);
     let mut left = message.children(1, Shape::Literal);
     while let Some(field) = left.next() {
-        fields.push(literal(alloc, &field)?)?;
+        fields.push(literal_of(alloc, &field)?)?;
     }
     Ok(LiteralRow {
         fields: Items::from_vec(fields),
     })
 }
 
-fn literal(alloc: Global, message: &Message<'_>) -> Result<RawLiteral, NoMemory>
+/// A `Literal`.
+pub fn literal_of(alloc: Global, message: &Message<'_>) -> Result<RawLiteral, NoMemory>
     requires { message.now.shape ≡ Shape.Literal }
     ensures { IfOk result (λ literal. literal ≡ literal_by (reader message.now.below) (fields_of message.now.bytes)) }
 {

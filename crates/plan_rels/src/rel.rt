@@ -12,7 +12,7 @@ use crate::read::read;
 use plan_leaves::zip;
 use plan_parts::{Deeper, boxed_expr_at, common_at, exprs_at, rel_at, rels_at};
 use plan_raw::RawRel;
-use plan_scan::{Message, OneOf, Shape, Use, use_of_field};
+use plan_scan::{Choice, Message, OneOf, Shape};
 use std::alloc::Global;
 use sub_types::NoMemory;
 
@@ -20,41 +20,22 @@ use sub_types::NoMemory;
 pub fn relation_by<D: Deeper>(
     alloc: Global,
     deeper: &D,
-    message: &Message<'_>,
+    choice: &Choice<'_>,
 ) -> Result<RawRel, NoMemory>
-    requires shape { message.now.shape ≡ Shape.Rel }
+    requires oneof { choice.now.oneof ≡ OneOf.RelType }
     requires ready { D.is_ready deeper.now }
-    requires deeper { message.now.below ≤ D.levels deeper.now }
-    ensures { IfOk result (λ rel. rel ≡ rels.rel_by (reader message.now.below) (fields_of message.now.bytes)) }
+    requires deeper { choice.now.below ≤ D.levels deeper.now }
+    ensures { IfOk result (λ rel. rel ≡ rels.rel_by (reader choice.now.below) (fields_of choice.now.bytes)) }
 {
-    match message.oneof(OneOf::RelType) {
+    match choice.winner() {
         None => Ok(RawRel::Missing),
-        Some((number, won)) => member(alloc, deeper, number, &won),
-    }
-}
-
-fn member<D: Deeper>(
-    alloc: Global,
-    deeper: &D,
-    number: u32,
-    won: &Message<'_>,
-) -> Result<RawRel, NoMemory>
-    requires shape { won.now.shape ≡ Shape.Rel }
-    requires ready { D.is_ready deeper.now }
-    requires deeper { won.now.below ≤ D.levels deeper.now }
-    ensures { IfOk result (λ rel. rel ≡ rels.rel_member (reader won.now.below) number (fields_of won.now.bytes)) }
-{
-    let Use::Message(shape) = use_of_field(Shape::Rel, number) else {
-        return Ok(RawRel::Unknown { number });
-    };
-    match won.merged(alloc, number, shape)? {
-        None => Ok(RawRel::Missing),
-        Some(found) => member_in(alloc, deeper, number, &found.message()),
+        Some((number, None)) => Ok(RawRel::Unknown { number }),
+        Some((number, Some(message))) => member(alloc, deeper, number, &message),
     }
 }
 
 // The message of the member of this number.
-fn member_in<D: Deeper>(
+fn member<D: Deeper>(
     alloc: Global,
     deeper: &D,
     number: u32,

@@ -97,6 +97,16 @@ winner_again is_member last since behind field fields e is = after_member is_mem
 pub winner_changed : (is_member : Field → Bool) (last : Option ℕ) (since behind : List Field) (field : Field) (fields : List Field) → is_member field ≡ true → is_last last field.number ≡ false → winner_from is_member last since behind (field ∷ fields) ≡ winner_from is_member (Some field.number) behind fields fields
 winner_changed is_member last since behind field fields e other = after_member is_member last since behind behind field fields e (ap (λ b. cond b since behind) other)
 
+-- a record of no member
+pub winner_skipped : (is_member : Field → Bool) (last : Option ℕ) (since behind : List Field) (field : Field) (fields : List Field) → is_member field ≡ false → winner_from is_member last since behind (field ∷ fields) ≡ winner_from is_member last since behind fields
+winner_skipped is_member last since behind field fields e =
+    same_winner _ _ (won_from is_member last since behind (field ∷ fields)) (won_from is_member last since behind fields)
+    (ap (λ b. last_or last (map (λ (f : Field). f.number) (cond b (field ∷ filter is_member fields) (filter is_member fields)))) e)
+    (λ number. ap (λ records. member_from number records) (since_skipped (is_other is_member number) (cond (is_last last number) since behind) field fields (ap (λ b. b && not (field.number == number)) e)))
+  where
+    member_from : ℕ → List Field → Member
+    member_from number records = record { number = number; records = records }
+
 -- nothing is left
 pub winner_end : (is_member : Field → Bool) (number : ℕ) (since behind : List Field) → winner_from is_member (Some number) since behind [] ≡ Some (record { number = number; records = since })
 winner_end is_member number since behind = ap (λ b. Some (record { number = number; records = cond b since behind })) (eq-eqb number number refl)
@@ -215,3 +225,8 @@ winner_there oneof inner fields won chosen holds =
   where
     won_by : OneOf → List Field → Field → Member
     won_by oneof fields last = record { number = last.number; records = behind_last (is_other (is_member oneof) last.number) fields }
+
+-- there was no last member
+pub none_before : (last : Option ℕ) (is_none : Bool) → is_some last ≡ not is_none → is_none ≡ true → last ≡ None
+none_before None is_none same none = refl
+none_before (Some number) is_none same none = absurd (cc)

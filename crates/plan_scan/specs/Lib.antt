@@ -4,3 +4,5 @@ pub mod Member
 pub mod Seen
 pub mod Scanned
 pub mod Pieces
+pub mod Index
+pub mod Choice

@@ -3,7 +3,9 @@
 
 mod blocks;
 mod children;
+mod choice;
 mod flaw;
+mod index;
 mod laws;
 mod merged;
 mod message;
@@ -13,8 +15,10 @@ mod scan;
 mod shape;
 mod table;
 mod values;
+mod won;
 
 pub use children::Children;
+pub use choice::Choice;
 pub use flaw::Flaw;
 pub use laws::winner_is_there;
 pub use merged::Merged;

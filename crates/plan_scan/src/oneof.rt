@@ -1,6 +1,7 @@
 // The oneofs of a plan's messages.
 ghost use Rattle.std.specs.Prelude.{◌≡◌};
 ghost use Rattle.pb_wire.specs.Seen.{content_of, field_seen};
+ghost use Rattle.plan_scan.specs.Member as member;
 ghost use Rattle.plan_scan.specs.Member.{owner, has_number, has_wire_type, is_member};
 
 use crate::shape::{Shape, Use};
@@ -45,8 +46,8 @@ impl OneOf {
             && is_of_type(use_of_field(self.owner(), found.number), &found.payload)
     }
 
-    // The message that has the oneof.
-    fn owner(self) -> Shape
+    /// The message that has the oneof.
+    pub(crate) fn owner(self) -> Shape
         ensures { result ≡ owner self }
     {
         match self {
@@ -78,6 +79,16 @@ impl OneOf {
             OneOf::LiteralType => !(number == 50 || number == 51),
             OneOf::RelType | OneOf::RexType | OneOf::TypeKind | OneOf::SubqueryType => true,
         }
+    }
+}
+
+/// Whether the last member so far has this number.
+pub(crate) fn is_last(last: Option<u32>, number: u32) -> bool
+    ensures { result ≡ member.is_last last number }
+{
+    match last {
+        Some(found) => found == number,
+        None => false,
     }
 }
 

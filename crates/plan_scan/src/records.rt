@@ -9,14 +9,14 @@ use std::marker::Model;
 
 /// A reader of the records of a message in pieces, seen as the bytes that are left.
 #[derive(Drop)]
-pub(crate) struct Records<'a> {
+pub(crate) struct Records<'p, 'a> {
     // What is left of the piece that is read.
     rest: &'a [u8],
-    later: &'a [&'a [u8]],
+    later: &'p [&'a [u8]],
     index: usize,
 }
 
-impl<'a> Model for Records<'a> {
+impl<'p, 'a> Model for Records<'p, 'a> {
     ghost use Rattle.std.specs.Prelude.{ℕ, ◌≤◌, List, length};
     ghost use Rattle.std.specs.List.{concat};
     ghost use Rattle.plan_scan.specs.Pieces.{left_pieces, AreWhole};
@@ -28,13 +28,13 @@ impl<'a> Model for Records<'a> {
     ghost invariant = { λ records. (records.index ≤ length records.later.now) × AreWhole (left_pieces records.rest.now records.later.now records.index) };
 }
 
-impl<'a> Records<'a> {
+impl<'p, 'a> Records<'p, 'a> {
     ghost use Rattle.std.specs.Prelude.{◌≡◌, ◌<◌, ◌∷◌, length, OnSome};
     ghost use Rattle.std.specs.List.{concat};
     ghost use Rattle.plan_scan.specs.Pieces.{left_pieces, pieces_of, AreWhole, IsFirstRecord};
 
     /// The records of the first piece, and then those of the later ones.
-    pub(crate) fn new(first: &'a [u8], later: &'a [&'a [u8]]) -> Records<'a>
+    pub(crate) fn new(first: &'a [u8], later: &'p [&'a [u8]]) -> Records<'p, 'a>
         requires { AreWhole (left_pieces first.now later.now 0) }
         ensures { result ≡ concat (left_pieces first.entry.now later.entry.now 0) }
     {
@@ -71,7 +71,7 @@ impl<'a> Records<'a> {
 
     /// The same records again, from here on.
     #[inline(always)]
-    pub(crate) fn again(&self) -> Records<'a>
+    pub(crate) fn again(&self) -> Records<'p, 'a>
         ensures { result ≡ self.now }
     {
         Records {
@@ -82,7 +82,7 @@ impl<'a> Records<'a> {
     }
 
     /// The pieces that are left, the first apart.
-    pub(crate) fn pieces(&self) -> (&'a [u8], &'a [&'a [u8]])
+    pub(crate) fn pieces(&self) -> (&'a [u8], &'p [&'a [u8]])
         ensures bytes { concat (result.0.now ∷ pieces_of result.1.now) ≡ self.now }
         ensures whole { AreWhole (result.0.now ∷ pieces_of result.1.now) }
     {

@@ -10,9 +10,6 @@ use crate::shape::{Shape, Use};
 use crate::table::use_of_field;
 use pb_wire::{Fields, Packed, Payload, Record};
 
-/// The bytes of a block of a long text.
-const BLOCK: usize = 64;
-
 /// The most levels of messages in a plan, the plan's own among them.
 pub(crate) const LEVELS: u32 = 100;
 
@@ -90,28 +87,8 @@ fn unless_well(well: bool, place: usize) -> Option<Flaw>
     }
 }
 
-// Whether the bytes are UTF-8. Few of them are read one by one: to read them in blocks, they would first be copied.
+// Whether the bytes are UTF-8.
 pub(crate) fn is_text(bytes: &[u8]) -> bool
-    ensures { result ≡ is_utf8 bytes.now }
-{
-    if bytes.len() < BLOCK {
-        is_short_text(bytes)
-    } else {
-        is_long_text(bytes)
-    }
-}
-
-fn is_short_text(bytes: &[u8]) -> bool
-    ensures { result ≡ is_utf8 bytes.now }
-{
-    match std::str::from_utf8(bytes) {
-        Ok(_) => true,
-        Err(_) => false,
-    }
-}
-
-#[inline(never)]
-fn is_long_text(bytes: &[u8]) -> bool
     ensures { result ≡ is_utf8 bytes.now }
 {
     simdutf8::is_utf8(bytes)

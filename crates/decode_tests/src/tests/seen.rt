@@ -1,5 +1,5 @@
 // What a test sees of a tree.
-use plan_leaves::{Items, RawLiteral, RawType, RelCommon, StructType};
+use plan_leaves::{Items, NamedStruct, RawLiteral, RawType, RelCommon, StructType};
 use plan_raw::{PlanTree, RawExpr, RawRel, RawSource};
 use sub_types::ByteList;
 
@@ -116,6 +116,79 @@ pub fn reads_column(tree: &PlanTree, name: &[u8]) -> bool {
         ) => is_name(&schema.names, name),
         _ => false,
     }
+}
+
+// Whether the columns have these names.
+fn has_columns(schema: &Option<NamedStruct>, wanted: &[&[u8]]) -> bool {
+    match schema {
+        None => wanted.is_empty(),
+        Some(schema) => {
+            let names = schema.names.as_slice();
+            names.len() == wanted.len()
+                && names
+                    .iter()
+                    .zip(wanted)
+                    .all(|(name, wanted)| name.bytes() == *wanted)
+        }
+    }
+}
+
+/// Whether the root's input is a read of these columns from a table whose name is so many times this one.
+pub fn reads_table(tree: &PlanTree, columns: &[&[u8]], name: &[u8], times: usize) -> bool {
+    match input(tree) {
+        Some(
+            RawRel::Read {
+                common: None,
+                base_schema,
+                filter: None,
+                projection: None,
+                source: RawSource::NamedTable(table),
+                best_effort_filter: None,
+            },
+        ) => {
+            has_columns(base_schema, columns)
+                && table.names.as_slice().len() == times
+                && table
+                    .names
+                    .as_slice()
+                    .iter()
+                    .all(|found| found.bytes() == name)
+        }
+        _ => false,
+    }
+}
+
+/// Whether the root's input is a read of these columns from a virtual table without rows.
+pub fn reads_rows(tree: &PlanTree, columns: &[&[u8]]) -> bool {
+    match input(tree) {
+        Some(
+            RawRel::Read {
+                common: None,
+                base_schema,
+                filter: None,
+                projection: None,
+                source: RawSource::VirtualTable(table),
+                best_effort_filter: None,
+            },
+        ) => {
+            has_columns(base_schema, columns)
+                && table.values.is_empty()
+                && table.expressions.is_empty()
+        }
+        _ => false,
+    }
+}
+
+/// Whether the root's input is a filter with nothing in it.
+pub fn filters_nothing(tree: &PlanTree) -> bool {
+    matches!(
+        input(tree),
+        Some(RawRel::Filter {
+            common: None,
+            input: None,
+            condition: None,
+        },)
+    )
 }
 
 /// Whether the root's input is a read that emits these columns.

@@ -209,10 +209,26 @@ fn relation_of(rt: &HostRuntime, bytes: &[u8]) -> Result<(u32, usize), Fail> {
     Ok((number, schema.message().texts(rt.alloc(), 1)?.len()))
 }
 
+// The same, read as a choice, and how many records of a schema the winner has.
+fn choice_of(rt: &HostRuntime, bytes: &[u8]) -> Result<(u32, usize), Fail> {
+    let Some(root) = first_root(rt, bytes)? else {
+        return Ok((0, 0));
+    };
+    let Some(choice) = root.message().choice_at(rt.alloc(), 1, OneOf::RelType)? else {
+        return Ok((0, 0));
+    };
+    match choice.winner() {
+        None => Ok((0, 0)),
+        Some((number, None)) => Ok((number, 0)),
+        Some((number, Some(message))) => Ok((number, message.texts(rt.alloc(), 2)?.len())),
+    }
+}
+
 #[test]
 fn the_second_read_alone(rt: HostRuntime) -> Result<(), Fail> {
-    let plans: [(&[u8], (u32, usize)); 5] = [
-        (&THREE_ROWS, (1, 1)),
+    // With each, how many records the schema of its winner is in.
+    let plans: [(&[u8], (u32, usize), usize); 5] = [
+        (&THREE_ROWS, (1, 1), 1),
         // A read of the names `a` and `b`, a filter, and a read of the name `c`.
         (
             &[
@@ -220,6 +236,7 @@ fn the_second_read_alone(rt: HostRuntime) -> Result<(), Fail> {
                 0x01, 0x62, 0x12, 0x00, 0x0A, 0x05, 0x12, 0x03, 0x0A, 0x01, 0x63,
             ],
             (1, 1),
+            1,
         ),
         // The reads without a filter between them.
         (
@@ -228,6 +245,7 @@ fn the_second_read_alone(rt: HostRuntime) -> Result<(), Fail> {
                 0x01, 0x62, 0x0A, 0x05, 0x12, 0x03, 0x0A, 0x01, 0x63,
             ],
             (1, 3),
+            2,
         ),
         // Reads of `a` and of `b`, a filter behind the one and a fetch behind the other, and reads of `c` and of `d`.
         (
@@ -237,15 +255,18 @@ fn the_second_read_alone(rt: HostRuntime) -> Result<(), Fail> {
                 0x0A, 0x01, 0x63, 0x0A, 0x05, 0x12, 0x03, 0x0A, 0x01, 0x64,
             ],
             (1, 2),
+            2,
         ),
         // A read, and a member 13 that isn't known.
         (
             &[0x1A, 0x08, 0x12, 0x06, 0x0A, 0x04, 0x0A, 0x00, 0x68, 0x05],
             (13, 0),
+            0,
         ),
     ];
-    for (bytes, want) in plans {
+    for (bytes, want, records) in plans {
         assert_eq!(rt; relation_of(&rt, bytes)?, want, "of {bytes:?}");
+        assert_eq!(rt; choice_of(&rt, bytes)?, (want.0, records), "of {bytes:?}");
     }
     Ok(())
 }

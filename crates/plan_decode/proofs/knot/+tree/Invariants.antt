@@ -3,7 +3,7 @@ use Rattle.std.proofs.Common.{◌+◌, ◌*◌}
 use Rattle.plan_decode.proofs.knot.+tree.Given as goal
 
 abbrev pub decreases-relation : goal.decreases-relation
-decreases-relation l = 2 * l.message.now.below
+decreases-relation l = 2 * l.choice.now.below
 
 abbrev pub decreases-relation-rel : goal.decreases-relation-rel
 decreases-relation-rel l = 2 * l.inner.now.below + 1
@@ -12,7 +12,7 @@ abbrev pub decreases-relation-expr : goal.decreases-relation-expr
 decreases-relation-expr l = 2 * l.inner.now.below + 1
 
 abbrev pub decreases-expression : goal.decreases-expression
-decreases-expression l = 2 * l.message.now.below
+decreases-expression l = 2 * l.choice.now.below
 
 abbrev pub decreases-expression-rel : goal.decreases-expression-rel
 decreases-expression-rel l = 2 * l.inner.now.below + 1

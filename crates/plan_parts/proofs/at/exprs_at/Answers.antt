@@ -7,6 +7,6 @@ pub loop-found-preserved : goal.loop-found-preserved
 loop-found-preserved g c = record {
   shape = c.in-Some.ensures.3 ∙ c.loop-found.invariant.shape;
   above = c.in-Some.ensures.4 ∙ c.loop-found.invariant.above;
-  whole = read_next c.args.message.now.below s.Expression c.loop-found.left c.next.new.self c.in-Some.found c.loop-found.exprs.items c.push.new.self.items _ c.in_ok-expression.field-0
-      c.loop-found.invariant.above c.in-Some.ensures c.in_ok-expression.ensures c.in_ok-push.ensures.items c.loop-found.invariant.whole;
+  whole = read_next c.args.message.now.below s.Expression c.loop-found.left c.next.new.self c.in-Some.found c.loop-found.exprs.items c.push.new.self.items _ c.in_ok-expr_in.field-0
+      c.loop-found.invariant.above c.in-Some.ensures c.in_ok-expr_in.ensures c.in_ok-push.ensures.items c.loop-found.invariant.whole;
 }

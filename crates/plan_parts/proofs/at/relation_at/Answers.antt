@@ -1,8 +1,8 @@
 use Rattle.plan_scan.specs.declared.shape.Shape.TheVariants as s
-use Rattle.plan_parts.proofs.ReaderLaws.{read_part}
+use Rattle.plan_parts.proofs.ReaderLaws.{read_choice}
 use Rattle.plan_parts.proofs.at.relation_at.Goals as goal
 
 pub returns-in_ok-relation-in-Some : goal.returns-in_ok-relation-in-Some
 returns-in_ok-relation-in-Some g c =
-    read_part c.args.message.now c.in_ok-merged.field-0 c.in-Some.found s.Rel c.args.number c.in_ok-relation-in-Some.field-0
-    c.in-Some.is c.in_ok-merged.ensures.bytes c.in_ok-merged.ensures.below c.message.ensures c.in_ok-relation-in-Some.ensures
+    read_choice c.args.message.now c.in_ok-choice_at.field-0 c.in-Some.found s.Rel c.args.number c.in_ok-relation-in-Some.field-0
+    c.in-Some.is c.in_ok-choice_at.ensures.bytes c.in_ok-choice_at.ensures.below c.in_ok-relation-in-Some.ensures

@@ -7,6 +7,6 @@ pub loop-found-preserved : goal.loop-found-preserved
 loop-found-preserved g c = record {
   shape = c.in-Some.ensures.3 ∙ c.loop-found.invariant.shape;
   above = c.in-Some.ensures.4 ∙ c.loop-found.invariant.above;
-  whole = read_next c.args.message.now.below s.Rel c.loop-found.left c.next.new.self c.in-Some.found c.loop-found.rels.items c.push.new.self.items _ c.in_ok-relation.field-0
-      c.loop-found.invariant.above c.in-Some.ensures c.in_ok-relation.ensures c.in_ok-push.ensures.items c.loop-found.invariant.whole;
+  whole = read_next c.args.message.now.below s.Rel c.loop-found.left c.next.new.self c.in-Some.found c.loop-found.rels.items c.push.new.self.items _ c.in_ok-rel_in.field-0
+      c.loop-found.invariant.above c.in-Some.ensures c.in_ok-rel_in.ensures c.in_ok-push.ensures.items c.loop-found.invariant.whole;
 }

@@ -1,32 +1,34 @@
-use Rattle.std.proofs.Common.{◌≡◌, ◌∙◌, ◌∷◌, ◌++◌, ◌-◌, ℕ, suc, List, [], sym, ap, true, arith, append-nil, is_some}
-use Rattle.std.specs.List.{list_all, concat}
-use Rattle.pb_wire.specs.Payloads.{fields_of, blocks}
-use Rattle.plan_scan.specs.declared.shape.Shape.{Shape}
+use Rattle.std.proofs.Common.{◌≡◌, ◌∙◌, ◌∷◌, ◌-◌, suc, List, ℕ, sym, ap, true, arith}
+use Rattle.std.specs.List.{list_all}
 use Rattle.plan_scan.specs.Scanned.{Scanned, is_readable}
-use Rattle.plan_scan.specs.Table.{HoldsMessage}
-use Rattle.plan_scan.specs.Pieces.{pieces_of}
+use Rattle.plan_scan.specs.Pieces.{pieces_of, later_of, pieces_found}
 use Rattle.plan_scan.proofs.PieceLaws.{readable_message, readable_children, level_left}
 use Rattle.plan_scan.proofs.message.Message.merged.Goals as goal
+use Rattle.plan_scan.proofs.message.Message.merged.Goals.{In-Some}
 
--- all pieces of the child are readable one level further down, where none is left to be read
-all_pieces : (shape : Shape) (below : ℕ) (own : List (List ℕ)) (m : Scanned) (number : ℕ) (inner : Shape) (pieces left : List (List ℕ)) →
-    ◌≡◌ {A = Scanned} (record { shape = shape; below = below; bytes = concat own }) m → list_all (is_readable (suc below) shape) own ≡ true → HoldsMessage m.shape number inner → left ≡ [] → pieces ++ left ≡ blocks number (fields_of m.bytes) →
-    list_all (is_readable m.below inner) pieces ≡ true
-all_pieces shape below own m number inner pieces left view all holds none same =
-    readable_children m number inner pieces (readable_message shape below own m view all) holds (sym (append-nil pieces) ∙ ap (λ rest. pieces ++ rest) (sym none) ∙ same)
+abbrev pieces_in : In-Some → List (List ℕ)
+pieces_in c = c.in-Some.first.now ∷ pieces_of (later_of c.in-Some.own.items c.in-Some.known.now)
 
-pub overflow_sub-self-inside : goal.overflow_sub-self-inside
-overflow_sub-self-inside c =
-    let all = all_pieces c.self.inside.shape c.self.inside.below (c.self.inside.first.now ∷ pieces_of c.self.inside.later.now) c.args.self.now c.args.number c.args.shape (c.in-Some.first.now ∷ pieces_of c.loop-block.more.items) _ c.self.view_is c.self.invariant c.requires (c.next-in-loop-block.ensures.none (ap is_some c.in_default-next.is)) c.loop-block.invariant in
-    omega (arith, level_left c.args.self.now.below c.args.shape _ _ all, ap (λ (m : Scanned). m.below) c.self.view_is)
+-- all pieces of the child are readable one level further down
+all_pieces : (c : In-Some) → list_all (is_readable c.args.self.now.below c.args.shape) (pieces_in c) ≡ true
+all_pieces c =
+    let own = c.self.inside.first.now ∷ pieces_of c.self.inside.later.now in
+    let message = readable_message c.self.inside.shape c.self.inside.below own c.args.self.now c.self.view_is c.self.invariant.0 in
+    readable_children c.args.self.now c.args.number c.args.shape (pieces_in c) message c.requires (ap pieces_found (sym c.in-Some.is) ∙ c.in_ok-first.ensures)
+
+below_is : (c : In-Some) → c.self.inside.below ≡ c.args.self.now.below
+below_is c = ap (λ (m : Scanned). m.below) c.self.view_is
+
+some_left : (c : In-Some) → suc (c.self.inside.below - 1) ≡ c.args.self.now.below
+some_left c = omega (arith, level_left c.args.self.now.below c.args.shape _ _ (all_pieces c), below_is c)
+
+pub overflow_sub-above : goal.overflow_sub-above
+overflow_sub-above c = let here : In-Some = (goal.at.overflow_sub-above c).In-Some in omega (arith, level_left c.args.self.now.below c.args.shape _ _ (all_pieces here), below_is here)
 
 pub new-requires : goal.new-requires
 new-requires c =
-    let all = all_pieces c.self.inside.shape c.self.inside.below (c.self.inside.first.now ∷ pieces_of c.self.inside.later.now) c.args.self.now c.args.number c.args.shape (c.in-Some.first.now ∷ pieces_of c.loop-block.more.items) _ c.self.view_is c.self.invariant c.requires (c.next-in-loop-block.ensures.none (ap is_some c.in_default-next.is)) c.loop-block.invariant in
-    let levels : suc (c.self.inside.below - 1) ≡ c.args.self.now.below = omega (arith, level_left c.args.self.now.below c.args.shape _ _ all, ap (λ (m : Scanned). m.below) c.self.view_is) in
-    ap (λ n. list_all (is_readable n c.args.shape) (c.in-Some.first.now ∷ pieces_of c.loop-block.more.items)) levels ∙ all
+    let here : In-Some = (goal.at.new-requires c).In-Some in
+    ap (λ n. list_all (is_readable n c.args.shape) (pieces_in here)) (some_left here) ∙ all_pieces here
 
 pub returns-clause-below : goal.returns-clause-below
-returns-clause-below c =
-    let all = all_pieces c.self.inside.shape c.self.inside.below (c.self.inside.first.now ∷ pieces_of c.self.inside.later.now) c.args.self.now c.args.number c.args.shape (c.in-Some.first.now ∷ pieces_of c.loop-block.more.items) _ c.self.view_is c.self.invariant c.requires (c.next-in-loop-block.ensures.none (ap is_some c.in_default-next.is)) c.loop-block.invariant in
-    omega (arith, level_left c.args.self.now.below c.args.shape _ _ all, ap (λ (m : Scanned). m.below) c.self.view_is, ap (λ (m : Scanned). m.below) c.new.ensures)
+returns-clause-below c = let here : In-Some = (goal.at.returns-clause-below c).In-Some in omega (arith, some_left here, ap (λ (m : Scanned). m.below) c.in_ok-new.ensures)

@@ -7,4 +7,4 @@ use Rattle.plan_scan.proofs.message.Message.plan.Goals as goal
 pub invariant_of-result : goal.invariant_of-result
 invariant_of-result c =
     let none : flaw c.args.bytes.now ≡ None = sym c.flaw_of.ensures ∙ c.in-None.is in
-    and_from _ _ (plan_readable c.args.bytes.now none) refl
+    (and_from _ _ (plan_readable c.args.bytes.now none) refl, tt)

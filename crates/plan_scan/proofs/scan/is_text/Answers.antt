@@ -2,7 +2,7 @@ use Rattle.std.proofs.Common.{◌≡◌, sym, refl, Bool, true, false, List, ℕ
 use Rattle.std.specs.Str.{IsUtf8, is_utf8}
 use Rattle.std.proofs.lemmas.Bool.{false_from_ne_true}
 use Rattle.std.proofs.lemmas.Str.{IsUtf8-from_is_utf8, is_utf8-from_IsUtf8}
-use Rattle.plan_scan.proofs.scan.is_long_text.Goals as goal
+use Rattle.plan_scan.proofs.scan.is_text.Goals as goal
 
 same_test : (b : Bool) (bytes : List ℕ) → (IsTrue b ↔ IsUtf8 bytes) → b ≡ is_utf8 bytes
 same_test true bytes e = sym (is_utf8-from_IsUtf8 bytes (e.0 refl))
