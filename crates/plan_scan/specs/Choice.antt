@@ -20,7 +20,7 @@ pub record Chosen : Type 0 where
   pub below : ℕ
   pub bytes : List ℕ
 
--- each field of the message that has the oneof is a message and a member
+-- the oneofs of relations and expressions: each field of a message that has one is a message, and a member
 abbrev pub is_of_messages : OneOf → Bool
 is_of_messages RelType = true
 is_of_messages RexType = true

@@ -18,9 +18,10 @@ use sub_types::NoMemory;
 pub struct Choice<'a> {
     oneof: OneOf,
     below: u32,
-    // Its payloads.
+    // Its payloads, of which only the contracts speak.
     first: &'a [u8],
     later: Blocks<'a>,
+    // The winner, and its message where the field of that number is named.
     number: Option<u32>,
     message: Option<Merged<'a>>,
 }
@@ -41,7 +42,7 @@ impl<'a> Model for Choice<'a> {
 }
 
 impl<'a> Choice<'a> {
-    ghost use Rattle.std.specs.Prelude.{◌≡◌, ◌∷◌, suc, true, IfOk, IfSome, Option};
+    ghost use Rattle.std.specs.Prelude.{◌≡◌, ◌∷◌, suc, true, IfOk};
     ghost use Rattle.std.specs.List.{concat, list_all};
     ghost use Rattle.std.specs.Option.{option_map, option_and_then};
     ghost use Rattle.pb_wire.specs.Payloads.{fields_of, chosen_member};
