@@ -1,5 +1,5 @@
 // The payloads of a message's fields by their numbers.
-ghost use Rattle.std.specs.Prelude.{◌≡◌, ◌∷◌, List, IfOk};
+ghost use Rattle.std.specs.Prelude.{◌≡◌, ◌∷◌, List, length, IfOk};
 ghost use Rattle.pb_wire.specs.Seen.{field_seen};
 ghost use Rattle.pb_wire.specs.Payloads.{Field, fields_of};
 ghost use Rattle.plan_scan.specs.Index.{IsIndex, AreIndexed};
@@ -17,7 +17,8 @@ pub(crate) fn index_of<'a>(
     alloc: Global,
     records: Records<'_, 'a>,
 ) -> Result<Vec<Vec<&'a [u8]>>, NoMemory>
-    ensures { IfOk result (λ index. IsIndex index.items (fields_of records.entry)) }
+    ensures index { IfOk result (λ index. IsIndex index.items (fields_of records.entry)) }
+    ensures lists { IfOk result (λ index. length index.items ≡ 16) }
 {
     let mut index = no_lists(alloc)?;
     let mut records = records;
@@ -28,7 +29,8 @@ pub(crate) fn index_of<'a>(
 }
 
 fn no_lists<'a>(alloc: Global) -> Result<Vec<Vec<&'a [u8]>>, NoMemory>
-    ensures { IfOk result (λ index. (all : List Field) → AreIndexed 0 index.items all all) }
+    ensures index { IfOk result (λ index. (all : List Field) → AreIndexed 0 index.items all all) }
+    ensures lists { IfOk result (λ index. length index.items ≡ 16) }
 {
     let mut index = Vec::new(alloc);
     while index.len() < NUMBERS {
@@ -39,7 +41,8 @@ fn no_lists<'a>(alloc: Global) -> Result<Vec<Vec<&'a [u8]>>, NoMemory>
 
 // Adds the payload of a record to its list, where there is one.
 fn add<'a>(index: &mut Vec<Vec<&'a [u8]>>, found: &Record<'a>) -> Result<(), NoMemory>
-    ensures { IfOk result (λ _. (left all : List Field) → AreIndexed 0 index.old.items (field_seen found.now ∷ left) all → AreIndexed 0 index.new.items left all) }
+    ensures lists { IfOk result (λ _. length index.new.items ≡ length index.old.items) }
+    ensures index { IfOk result (λ _. (left all : List Field) → AreIndexed 0 index.old.items (field_seen found.now ∷ left) all → AreIndexed 0 index.new.items left all) }
 {
     let Payload::Bytes(block) = found.payload else {
         return Ok(());
