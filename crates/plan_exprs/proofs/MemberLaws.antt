@@ -1,24 +1,18 @@
 -- An expression read by its winner.
-use Rattle.std.proofs.Common.{◌≡◌, ◌∙◌, ℕ, ◌+◌, List, Option, Some, None, Result, Ok, Err, IfOk, unwrap_or, refl, sym, ap, subst}
+use Rattle.std.proofs.Common.{◌≡◌, ◌∙◌, ℕ, ◌+◌, List, Some, unwrap_or, refl, sym, ap}
 use Rattle.std.specs.Option.{option_map, option_map_or, option_and_then}
-use Rattle.pb_wire.specs.Payloads.{Field, Member, fields_of, merged_message, chosen_member}
+use Rattle.pb_wire.specs.Payloads.{Field, fields_of, merged_message}
 use Rattle.plan_scan.specs.declared.shape.Shape.{Shape}
 use Rattle.plan_scan.specs.declared.shape.Shape.TheVariants as s
-use Rattle.plan_scan.specs.declared.oneof.OneOf.{OneOf}
-use Rattle.plan_scan.specs.declared.oneof.OneOf.TheVariants.{RexType}
 use Rattle.plan_scan.specs.Table.{use_of, HoldsMessage}
-use Rattle.plan_scan.specs.Member.{is_member}
-use Rattle.plan_scan.specs.Scanned.{Scanned}
-use Rattle.plan_scan.specs.Choice.{Chosen, IsWonMessage, won_of}
-use Rattle.plan_raw.specs.declared.expr.RawExpr.{RawExpr}
 use Rattle.plan_raw.specs.declared.expr.RawExpr.TheVariants as expr
-use Rattle.plan_parts.specs.Shapes.{child}
+use Rattle.plan_parts.specs.Shapes.{Reader, child}
 use Rattle.plan_parts.specs.Words.{part}
 use Rattle.plan_parts.specs.Parts.{selection_of}
 use Rattle.plan_parts.specs.Types.{literal_by}
-use Rattle.plan_parts.specs.Exprs.{expression_member, expression_by}
+use Rattle.plan_parts.specs.Exprs.{expression_member}
 use Rattle.plan_parts.specs.Reader.{reader}
-use Rattle.plan_parts.proofs.ReaderLaws.{by_number, not_this, reader-child, found_is, read_winner, won_merged, not_named}
+use Rattle.plan_parts.proofs.ReaderLaws.{by_number, not_this, reader-child, found_is}
 use Rattle.plan_exprs.specs.Member.{expr_in}
 
 literal_found : (below above number : ℕ) (fields : List Field) (bytes : List ℕ) → below + 1 ≡ above → number ≡ 1 → merged_message number fields ≡ Some bytes → option_map_or expr.Literal (child (reader above) s.Literal 1 fields) expr.Missing ≡ expr.Literal (literal_by (reader below) (fields_of bytes))
@@ -31,7 +25,7 @@ selection_found number fields bytes same merged =
     ap (λ o. unwrap_or (option_map (λ b. selection_of (fields_of b)) o) expr.Missing) (ap (λ n. merged_message n fields) (sym same) ∙ merged)
 
 -- a member whose message was found
-member_found : (below above number : ℕ) (fields : List Field) (bytes : List ℕ) → below + 1 ≡ above → merged_message number fields ≡ Some bytes → expression_member (reader above) number fields ≡ expr_in (reader below) number (fields_of bytes)
+pub member_found : (below above number : ℕ) (fields : List Field) (bytes : List ℕ) → below + 1 ≡ above → merged_message number fields ≡ Some bytes → expression_member (reader above) number fields ≡ expr_in (reader below) number (fields_of bytes)
 member_found below above number fields bytes one merged =
     by_number number 1 _ _ _ _ (λ e. literal_found below above number fields bytes one e merged) (
     by_number number 2 _ _ _ _ (λ e. selection_found number fields bytes e merged) (
@@ -44,7 +38,7 @@ member_found below above number fields bytes one merged =
     refl))))))))
 
 -- a member that isn't named
-member_unknown : (r : _) (number : ℕ) (fields : List Field) → ((inner : Shape) → HoldsMessage s.Expression number inner → ⊥) → expression_member r number fields ≡ expr.Unknown number
+pub member_unknown : (r : Reader) (number : ℕ) (fields : List Field) → ((inner : Shape) → HoldsMessage s.Expression number inner → ⊥) → expression_member r number fields ≡ expr.Unknown number
 member_unknown r number fields unnamed =
     not_this number 1 _ _ _ (λ e. unnamed s.Literal (ap (use_of s.Expression) e)) (
     not_this number 2 _ _ _ (λ e. unnamed s.FieldReference (ap (use_of s.Expression) e)) (
@@ -55,31 +49,3 @@ member_unknown r number fields unnamed =
     not_this number 11 _ _ _ (λ e. unnamed s.Cast (ap (use_of s.Expression) e)) (
     not_this number 12 _ _ _ (λ e. unnamed s.Subquery (ap (use_of s.Expression) e)) (
     refl))))))))
-
--- what a choice says of its winner
-abbrev Winner : OneOf → ℕ → List Field → ℕ → Option Scanned → Type 0
-Winner oneof below fields number message =
-    (Some number ≡ (won_of (chosen_member (is_member oneof) fields)).number) × IsWonMessage oneof below (won_of (chosen_member (is_member oneof) fields)) message
-
--- a winner with a message, and what that was read as
-pub winner_read : {E : Type 0} (choice : Chosen) (number : ℕ) (found : Option Scanned) (message : Scanned) (result : Result RawExpr E) → choice.oneof ≡ RexType →
-    found ≡ Some message → Winner choice.oneof choice.below (fields_of choice.bytes) number found →
-    IfOk result (λ x. x ≡ expr_in (reader message.below) number (fields_of message.bytes)) →
-    IfOk result (λ x. x ≡ expression_by (reader choice.below) (fields_of choice.bytes))
-winner_read choice number found message (Ok x) one is winner read =
-    let fields = fields_of choice.bytes in
-    let won = subst (λ oneof. Winner oneof choice.below fields number (Some message)) one (subst (Winner choice.oneof choice.below fields number) is winner) in
-    read_winner (expression_member (reader choice.below)) expr.Missing (chosen_member (is_member RexType) fields) number x (sym won.0) (λ member chosen here.
-    let P : Option Member → Type 0 = λ o. IsWonMessage RexType choice.below (won_of o) (Some message) in
-    let w : IsWonMessage RexType choice.below (won_of (Some member)) (Some message) = subst P chosen won.1 in
-    read ∙ sym (member_found message.below choice.below number member.records message.bytes w.level (won_merged RexType choice.below number member message w here)))
-winner_read choice number found message (Err error) one is winner read = tt
-
--- a winner without one
-pub winner_unknown : (choice : Chosen) (number : ℕ) (found : Option Scanned) → choice.oneof ≡ RexType → found ≡ None → Winner choice.oneof choice.below (fields_of choice.bytes) number found → expr.Unknown number ≡ expression_by (reader choice.below) (fields_of choice.bytes)
-winner_unknown choice number found one is winner =
-    let fields = fields_of choice.bytes in
-    let won = subst (λ oneof. Winner oneof choice.below fields number None) one (subst (Winner choice.oneof choice.below fields number) is winner) in
-    read_winner (expression_member (reader choice.below)) expr.Missing (chosen_member (is_member RexType) fields) number (expr.Unknown number) (sym won.0) (λ member chosen here.
-    let P : Option Member → Type 0 = λ o. IsWonMessage RexType choice.below (won_of o) None in
-    sym (member_unknown (reader choice.below) number member.records (λ inner holds. not_named RexType choice.below number inner fields member chosen here (subst P chosen won.1) holds)))

@@ -101,25 +101,20 @@ pub not_this : {A : Type 0} (number this : ℕ) (x others other : A) → (number
 not_this number this x others other differ rest = ap (λ b. cond b x others) (ne_eqb number this differ) ∙ rest
 
 -- what a message that is a oneof of messages is read as, by its winner
-pub read_winner : {A : Type 0} (read : ℕ → List Field → A) (missing : A) (won : Option Member) (number : ℕ) (x : A) → (won_of won).number ≡ Some number →
+read_winner : {A : Type 0} (read : ℕ → List Field → A) (missing : A) (won : Option Member) (number : ℕ) (x : A) → (won_of won).number ≡ Some number →
     ((member : Member) → won ≡ Some member → member.number ≡ number → x ≡ read number member.records) → x ≡ option_map_or (λ member. read member.number member.records) won missing
 read_winner read missing None number x is same = absurd (cc)
 read_winner read missing (Some member) number x is same =
     let here : member.number ≡ number = cc in
     same member refl here ∙ ap (λ n. read n member.records) (sym here)
 
--- where there is no winner
-pub read_none : {A : Type 0} (read : ℕ → List Field → A) (missing : A) (won : Option Member) → (won_of won).number ≡ None → missing ≡ option_map_or (λ member. read member.number member.records) won missing
-read_none read missing None is = refl
-read_none read missing (Some member) is = absurd (cc)
-
 -- the winner's message is found among its records
-pub won_merged : (oneof : OneOf) (below number : ℕ) (member : Member) (message : Scanned) → IsWonMessage oneof below (won_of (Some member)) (Some message) → member.number ≡ number → merged_message number member.records ≡ Some message.bytes
+won_merged : (oneof : OneOf) (below number : ℕ) (member : Member) (message : Scanned) → IsWonMessage oneof below (won_of (Some member)) (Some message) → member.number ≡ number → merged_message number member.records ≡ Some message.bytes
 won_merged oneof below number member message is here =
     ap (λ n. merged_message n member.records) (sym here) ∙ sym (is.bytes ∙ ap (λ holds. where_message holds (merged_message member.number member.records)) is.shape)
 
 -- a winner without a message isn't that of a named field
-pub not_named : (oneof : OneOf) (below number : ℕ) (inner : Shape) (fields : List Field) (member : Member) → chosen_member (is_member oneof) fields ≡ Some member → member.number ≡ number →
+not_named : (oneof : OneOf) (below number : ℕ) (inner : Shape) (fields : List Field) (member : Member) → chosen_member (is_member oneof) fields ≡ Some member → member.number ≡ number →
     IsWonMessage oneof below (won_of (Some member)) None → HoldsMessage (owner oneof) number inner → ⊥
 not_named oneof below number inner fields member chosen here is holds =
     let named : HoldsMessage (owner oneof) member.number inner = ap (use_of (owner oneof)) here ∙ holds in
@@ -127,3 +122,35 @@ not_named oneof below number inner fields member chosen here is holds =
     let some : is_some (merged_message member.number member.records) ≡ true = winner_there oneof inner fields member chosen named in
     let both : false ≡ true = ap is_some none ∙ some in
     cc
+
+-- what a choice says of its winner
+abbrev Winner : OneOf → ℕ → List Field → ℕ → Option Scanned → Type 0
+Winner oneof below fields number message =
+    (Some number ≡ (won_of (chosen_member (is_member oneof) fields)).number) × IsWonMessage oneof below (won_of (chosen_member (is_member oneof) fields)) message
+
+-- what a message that is a oneof of messages is read as, where its winner has a message, by what that was read as
+pub choice_read : {A E : Type 0} (own : OneOf) (read inside : ℕ → ℕ → List Field → A) (missing : A) →
+    ((below above number : ℕ) (fields : List Field) (bytes : List ℕ) → below + 1 ≡ above → merged_message number fields ≡ Some bytes → read above number fields ≡ inside below number (fields_of bytes)) →
+    (choice : Chosen) (number : ℕ) (found : Option Scanned) (message : Scanned) (result : Result A E) → choice.oneof ≡ own → found ≡ Some message → Winner choice.oneof choice.below (fields_of choice.bytes) number found →
+    IfOk result (λ x. x ≡ inside message.below number (fields_of message.bytes)) →
+    IfOk result (λ x. x ≡ option_map_or (λ member. read choice.below member.number member.records) (chosen_member (is_member own) (fields_of choice.bytes)) missing)
+choice_read own read inside missing agree choice number found message (Ok x) one is winner here =
+    let fields = fields_of choice.bytes in
+    let won = subst (λ oneof. Winner oneof choice.below fields number (Some message)) one (subst (Winner choice.oneof choice.below fields number) is winner) in
+    read_winner (read choice.below) missing (chosen_member (is_member own) fields) number x (sym won.0) (λ member chosen same.
+    let P : Option Member → Type 0 = λ o. IsWonMessage own choice.below (won_of o) (Some message) in
+    let w : IsWonMessage own choice.below (won_of (Some member)) (Some message) = subst P chosen won.1 in
+    here ∙ sym (agree message.below choice.below number member.records message.bytes w.level (won_merged own choice.below number member message w same)))
+choice_read own read inside missing agree choice number found message (Err error) one is winner here = tt
+
+-- and where it has none
+pub choice_unknown : {A : Type 0} (own : OneOf) (read : ℕ → List Field → A) (unknown : ℕ → A) (missing : A) →
+    ((number : ℕ) (fields : List Field) → ((inner : Shape) → HoldsMessage (owner own) number inner → ⊥) → read number fields ≡ unknown number) →
+    (choice : Chosen) (number : ℕ) (found : Option Scanned) → choice.oneof ≡ own → found ≡ None → Winner choice.oneof choice.below (fields_of choice.bytes) number found →
+    unknown number ≡ option_map_or (λ member. read member.number member.records) (chosen_member (is_member own) (fields_of choice.bytes)) missing
+choice_unknown own read unknown missing unnamed choice number found one is winner =
+    let fields = fields_of choice.bytes in
+    let won = subst (λ oneof. Winner oneof choice.below fields number None) one (subst (Winner choice.oneof choice.below fields number) is winner) in
+    read_winner read missing (chosen_member (is_member own) fields) number (unknown number) (sym won.0) (λ member chosen same.
+    let P : Option Member → Type 0 = λ o. IsWonMessage own choice.below (won_of o) None in
+    sym (unnamed number member.records (λ inner holds. not_named own choice.below number inner fields member chosen same (subst P chosen won.1) holds)))
