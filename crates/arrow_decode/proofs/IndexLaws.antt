@@ -10,7 +10,7 @@ use Rattle.byteorder.specs.Endian.{little_number}
 use Rattle.sub_types.specs.Optional.{optional}
 use Rattle.sub_types.specs.OptionalLaws.{length-optional, get_or-optional_valid, get_or-optional_null}
 use Rattle.arrow_meta.specs.Known.{is_index_size}
-use Rattle.arrow_meta.specs.Optional.{all_of}
+use Rattle.sub_types.specs.OptionSteps.{all_of}
 use Rattle.arrow_meta.specs.Values.{unsigned_in, indices_in, named_value, encoded_in}
 use Rattle.arrow_decode.specs.Indices.{index_number}
 use Rattle.arrow_decode.proofs.ListLaws.{all_of-push, all_of-at}

@@ -16,7 +16,7 @@ use Rattle.sub_types.specs.declared.value.Value.{Value}
 use Rattle.arrow_meta.specs.declared.field.Layout.{Layout}
 use Rattle.arrow_meta.specs.declared.field.Layout.TheVariants.{Plain, Wide, Index}
 use Rattle.arrow_meta.specs.Known.{IsLayout}
-use Rattle.arrow_meta.specs.Optional.{◌>>=◌, when, all_of}
+use Rattle.sub_types.specs.OptionSteps.{◌>>=◌, when, all_of}
 use Rattle.arrow_meta.specs.Values.{bits_in, unsigned_in, signed_in, ints_in, truths_in, has_digits, checked_decimals, decimals_in, are_offsets, pieces_of, binaries_in, is_text, texts_in, named_value, encoded_in, indices_in, values_in}
 use Rattle.arrow_decode.specs.Offsets.{offsets_of}
 use Rattle.arrow_decode.proofs.TextLaws.{binaries_in-offsets, length-pieces}

@@ -4,7 +4,7 @@ use Rattle.std.specs.List.{range_with_len, list_all}
 use Rattle.std.specs.Option.{option_map}
 use Rattle.std.proofs.lemmas.List.{take_more, map-append}
 use Rattle.sub_types.specs.Optional.{optional}
-use Rattle.arrow_meta.specs.Optional.{◌>>=◌, all_of}
+use Rattle.sub_types.specs.OptionSteps.{◌>>=◌, all_of}
 use Rattle.arrow_meta.specs.Values.{are_offsets}
 
 -- both tests

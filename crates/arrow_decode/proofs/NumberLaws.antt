@@ -8,7 +8,7 @@ use Rattle.std.proofs.lemmas.List.{length-drop}
 use Rattle.byteorder.specs.Endian.{little_number}
 use Rattle.sub_types.specs.Nullable.{int_value, dec_value}
 use Rattle.sub_types.specs.Optional.{optional}
-use Rattle.arrow_meta.specs.Optional.{◌>>=◌}
+use Rattle.sub_types.specs.OptionSteps.{◌>>=◌}
 use Rattle.arrow_meta.specs.Values.{signed_in, unsigned_in, has_digits, checked_decimals, decimals_in}
 
 -- a list of a list

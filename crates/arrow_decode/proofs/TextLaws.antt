@@ -6,7 +6,8 @@ use Rattle.std.proofs.Math.Nat.{mul-le-mul_left}
 use Rattle.std.proofs.lemmas.List.FromFn.{length-map-range_with_len, get_or-map-range_with_len, map-range_with_len_more}
 use Rattle.sub_types.specs.Optional.{optional}
 use Rattle.sub_types.specs.OptionalLaws.{length-optional, get_or-optional_valid, get_or-optional_null}
-use Rattle.arrow_meta.specs.Optional.{◌>>=◌, when, all_of, natural}
+use Rattle.arrow_meta.specs.Natural.{natural}
+use Rattle.sub_types.specs.OptionSteps.{◌>>=◌, when, all_of}
 use Rattle.arrow_meta.specs.Values.{offsets_in, are_offsets, pieces_of, pieces_in, binaries_in}
 use Rattle.arrow_decode.specs.Offsets.{offsets_of, offset_number, offset_width}
 use Rattle.arrow_decode.proofs.ListLaws.{all_of-push, all_of-at}

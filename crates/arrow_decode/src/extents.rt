@@ -3,7 +3,7 @@ ghost use Rattle.std.specs.Prelude.{◌≡◌, ◌⊎◌, ◌<◌, ◌≤◌, �
 ghost use Rattle.std.specs.List.{sum};
 ghost use Rattle.std.specs.Option.{option_map};
 ghost use Rattle.arrow_meta.specs.Batch as spec;
-ghost use Rattle.arrow_meta.specs.Optional.{all_of};
+ghost use Rattle.sub_types.specs.OptionSteps.{all_of};
 ghost use Rattle.arrow_decode.specs.Buffers.{buffers_seen};
 
 use crate::buffer::buffer;

@@ -3,7 +3,7 @@ ghost use Rattle.std.specs.Prelude.{◌≡◌, ◌+◌, ◌*◌, ◌<◌, ◌≤
 ghost use Rattle.std.specs.Option.{option_map};
 ghost use Rattle.sub_types.specs.Optional.{optional};
 ghost use Rattle.arrow_meta.specs.Known.{is_index_size};
-ghost use Rattle.arrow_meta.specs.Optional.{natural};
+ghost use Rattle.arrow_meta.specs.Natural.{natural};
 ghost use Rattle.arrow_meta.specs.Values.{encoded_in, named_value};
 ghost use Rattle.arrow_decode.specs.Indices as spec;
 

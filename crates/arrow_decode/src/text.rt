@@ -4,7 +4,7 @@ ghost use Rattle.std.specs.List.{list_all, slice_range};
 ghost use Rattle.std.specs.Option.{option_map};
 ghost use Rattle.std.specs.Int.{w32, w64};
 ghost use Rattle.sub_types.specs.Optional.{optional};
-ghost use Rattle.arrow_meta.specs.Optional.{natural};
+ghost use Rattle.arrow_meta.specs.Natural.{natural};
 ghost use Rattle.arrow_meta.specs.Values as spec;
 ghost use Rattle.arrow_decode.specs.Offsets.{offsets_of, offset_number, offset_width};
 

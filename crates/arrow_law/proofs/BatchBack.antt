@@ -16,7 +16,7 @@ use Rattle.sub_types.specs.declared.value.Value.{Value}
 use Rattle.arrow_meta.specs.declared.field.Layout.TheVariants.{Plain}
 use Rattle.arrow_meta.specs.declared.meta.RecordMeta.{RecordMeta}
 use Rattle.arrow_meta.specs.Buffers.{first_value, other_values, column_buffers as written_buffers, batch_buffers, batch_nodes, null_count, body_of, buffer_places}
-use Rattle.arrow_meta.specs.Optional.{all_of}
+use Rattle.sub_types.specs.OptionSteps.{all_of}
 use Rattle.arrow_meta.specs.Batch.{Wanted, known_buffers, count_in, buffer_in, column_buffers, buffer_values, column_in, columns_in, rows_in}
 use Rattle.arrow_law.proofs.Options.{slice_get_at}
 use Rattle.arrow_law.proofs.BodyBack.{signed_pair, buffers_back, buffer_places-append, length-buffer_places, body_of-append}

@@ -5,7 +5,7 @@ use Rattle.std.proofs.lemmas.List.{take_at, drop_at}
 use Rattle.std.proofs.lemmas.List.Concat.{flat_map-append}
 use Rattle.fb_bytes.specs.Layout.{filled, round_up}
 use Rattle.arrow_meta.specs.Buffers.{body_of, buffer_places}
-use Rattle.arrow_meta.specs.Optional.{all_of}
+use Rattle.sub_types.specs.OptionSteps.{all_of}
 use Rattle.arrow_meta.specs.Batch.{buffer_in}
 
 -- two numbers as signed ones

@@ -5,7 +5,7 @@ use Rattle.std.proofs.lemmas.List.Elements.{All-head, All-tail}
 use Rattle.sub_types.specs.declared.kind.Ty.{Ty}
 use Rattle.arrow_meta.specs.declared.field.FieldMeta.{FieldMeta}
 use Rattle.arrow_meta.specs.declared.field.Layout.TheVariants.{Plain}
-use Rattle.arrow_meta.specs.Optional.{all_of}
+use Rattle.sub_types.specs.OptionSteps.{all_of}
 use Rattle.arrow_meta.specs.Batch.{Wanted, known_buffers}
 use Rattle.arrow_meta.specs.Dictionary.{DictionaryBlock, dictionaries_from}
 use Rattle.arrow_meta.specs.Written.{column_of, columns_of}

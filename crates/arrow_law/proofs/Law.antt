@@ -14,7 +14,7 @@ use Rattle.arrow_meta.specs.declared.meta.Block.{Block}
 use Rattle.arrow_meta.specs.Messages.{Place, footer_laid}
 use Rattle.arrow_meta.specs.Meta.{place_of}
 use Rattle.arrow_meta.specs.File.{magic, batches, file_head, file_tail, file_of, footer_of, batch_message, batch_metadata, batch_body, blocks_from}
-use Rattle.arrow_meta.specs.Optional.{all_of}
+use Rattle.sub_types.specs.OptionSteps.{all_of}
 use Rattle.arrow_meta.specs.Footer.{footer_in}
 use Rattle.arrow_meta.specs.Written.{IsBlock, columns_of, written_footer}
 use Rattle.arrow_meta.specs.Head.{Head, refused, footer_place, footer_at, record_at, is_compressed, has_compression, head_with, head_of, block_body}

@@ -1,7 +1,7 @@
 -- Lists of values that may be missing, and lists by their places.
 use Rattle.std.proofs.Common.{◌≡◌, ◌∙◌, ℕ, zero, suc, ◌+◌, ◌<◌, List, [], ◌∷◌, ◌++◌, Option, Some, length, get_or, map, refl, sym, ap, arith, add-zero}
 use Rattle.std.specs.List.{range_with_len, slice_get}
-use Rattle.arrow_meta.specs.Optional.{all_of}
+use Rattle.sub_types.specs.OptionSteps.{all_of}
 
 -- all that are there, one by one
 pub all_of_places : {A : Type 0} (f : ℕ → Option A) (start : ℕ) (xs : List A) → ((k : ℕ) (d : A) → k < length xs → f (start + k) ≡ Some (get_or xs k d))

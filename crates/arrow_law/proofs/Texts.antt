@@ -17,7 +17,8 @@ use Rattle.sub_types.specs.Optional.{optional}
 use Rattle.sub_types.specs.declared.value.Value.{Value}
 use Rattle.sub_types.specs.declared.value.Value.TheVariants as values
 use Rattle.arrow_meta.specs.Buffers.{is_valid, text_bytes, text_ends}
-use Rattle.arrow_meta.specs.Optional.{◌>>=◌, all_of, natural}
+use Rattle.arrow_meta.specs.Natural.{natural}
+use Rattle.sub_types.specs.OptionSteps.{◌>>=◌, all_of}
 use Rattle.arrow_meta.specs.Values.{unsigned_in, offsets_in, are_offsets, pieces_of, pieces_in, texts_in, is_text, binaries_in}
 use Rattle.arrow_meta.proofs.BackLaws.{flat_map-map}
 use Rattle.arrow_law.proofs.Slots.{unsigned_back}

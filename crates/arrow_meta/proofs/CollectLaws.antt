@@ -6,7 +6,7 @@ use Rattle.arrow_meta.specs.declared.error.MetaError.{MetaError}
 use Rattle.arrow_meta.specs.declared.error.MetaError.TheVariants.{Unsupported}
 use Rattle.arrow_meta.specs.declared.field.FieldMeta.{FieldMeta}
 use Rattle.arrow_meta.specs.declared.field.Shape.{Shape}
-use Rattle.arrow_meta.specs.Looked.{◌>>=◌, collect}
+use Rattle.sub_types.specs.ResultSteps.{◌>>=◌, collect}
 use Rattle.arrow_meta.specs.Footer.{Field, columns_from}
 
 -- the first element can be read, and so can the others

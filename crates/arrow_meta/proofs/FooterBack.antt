@@ -16,7 +16,8 @@ use Rattle.arrow_meta.specs.declared.field.Shape.TheVariants.{Known}
 use Rattle.arrow_meta.specs.declared.meta.Block.{Block}
 use Rattle.arrow_meta.specs.Messages.{type_tag, type_laid, field_laid, fields_laid, footer_laid, block_bytes}
 use Rattle.arrow_meta.specs.Meta.{place_of}
-use Rattle.arrow_meta.specs.Looked.{collect, number_in}
+use Rattle.arrow_meta.specs.Looked.{number_in}
+use Rattle.sub_types.specs.ResultSteps.{collect}
 use Rattle.arrow_meta.specs.Shapes.{int_in, number_shape, decimal_in, date_in, timestamp_in, type_shape, encoding_in, shape_in, is_decimal}
 use Rattle.arrow_meta.specs.Footer.{Field, field_in, field_at, fields_in, blocks_in, block_at, block_in, columns_from, footer_in}
 use Rattle.arrow_meta.proofs.Lengths.{blocks_length, blocks_are_structs}

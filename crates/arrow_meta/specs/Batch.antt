@@ -12,7 +12,8 @@ use Rattle.arrow_meta.specs.declared.field.Layout.TheVariants.{Index}
 use Rattle.arrow_meta.specs.declared.field.Shape.{Shape}
 use Rattle.arrow_meta.specs.declared.field.Shape.TheVariants.{Known, Skip}
 use Rattle.arrow_meta.specs.declared.meta.RecordMeta.{RecordMeta}
-use Rattle.arrow_meta.specs.Optional.{◌>>=◌, when, all_of, natural}
+use Rattle.arrow_meta.specs.Natural.{natural}
+use Rattle.sub_types.specs.OptionSteps.{◌>>=◌, when, all_of}
 use Rattle.arrow_meta.specs.Values.{validity_in, values_in}
 
 -- how many buffers the columns of a kind and a layout have

@@ -7,7 +7,7 @@ use Rattle.arrow_meta.specs.declared.field.Layout.TheVariants.{Plain, Wide, Inde
 use Rattle.arrow_meta.specs.declared.field.Shape.TheVariants.{Known, Skip}
 use Rattle.arrow_meta.specs.declared.meta.RecordMeta.{RecordMeta}
 use Rattle.arrow_meta.specs.Message.{DictionaryMeta}
-use Rattle.arrow_meta.specs.Optional.{◌>>=◌, when, all_of}
+use Rattle.sub_types.specs.OptionSteps.{◌>>=◌, when, all_of}
 use Rattle.arrow_meta.specs.Values.{validity_in, texts_in}
 use Rattle.arrow_meta.specs.Batch.{count_in, column_buffers}
 

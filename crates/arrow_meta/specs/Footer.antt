@@ -9,7 +9,8 @@ use Rattle.arrow_meta.specs.declared.error.MetaError.TheVariants.{Unsupported}
 use Rattle.arrow_meta.specs.declared.field.FieldMeta.{FieldMeta}
 use Rattle.arrow_meta.specs.declared.field.Shape.{Shape}
 use Rattle.arrow_meta.specs.declared.meta.Block.{Block}
-use Rattle.arrow_meta.specs.Looked.{◌>>=◌, looked, when, collect, number_in, table_in, is_version}
+use Rattle.arrow_meta.specs.Looked.{looked, when, number_in, table_in, is_version}
+use Rattle.sub_types.specs.ResultSteps.{◌>>=◌, collect}
 use Rattle.arrow_meta.specs.Shapes.{shape_in}
 
 -- a field of a schema, whose type may be one whose buffers aren't counted

@@ -13,6 +13,7 @@ use Rattle.arrow_meta.specs.Message.{DictionaryMeta, record_in, dictionary_in}
 use Rattle.arrow_meta.specs.Messages.{Place}
 use Rattle.arrow_meta.specs.Places.{is_arrow, footer_size, place_in, metadata_in, body_in}
 use Rattle.arrow_meta.specs.Dictionary.{DictionaryBlock, ColumnDictionary, dictionaries_from}
+use Rattle.sub_types.specs.ResultSteps.{◌>>=◌}
 
 -- why a file isn't read: a footer that can't be read has its place
 pub data Refusal : Type 0 where
@@ -20,12 +21,6 @@ pub data Refusal : Type 0 where
   BadFooter : ℕ → Refusal
   Unsupported : ℕ → Refusal
   Compressed : Refusal
-
--- the first step and then the second, unless the file is refused
-infixl 10 ◌>>=◌
-abbrev pub ◌>>=◌ : {A B : Type 0} → Result A Refusal → (A → Result B Refusal) → Result B Refusal
-(Ok x) >>= f = f x
-(Err e) >>= f = Err e
 
 abbrev pub unless : {A : Type 0} → Bool → Refusal → Result A Refusal → Result A Refusal
 unless test refusal read = if test then Err refusal else read

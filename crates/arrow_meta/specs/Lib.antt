@@ -9,7 +9,7 @@ pub mod Message
 pub mod Seen
 pub mod Written
 pub mod Known
-pub mod Optional
+pub mod Natural
 pub mod Places
 pub mod Values
 pub mod Batch

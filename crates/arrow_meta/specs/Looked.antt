@@ -2,14 +2,9 @@
 use Rattle.std.specs.Prelude.{◌≡◌, ℕ, List, [], ◌∷◌, Bool, Option, Some, None, Result, Ok, Err, unwrap_or, ◌||◌, ◌==◌, if◌then◌else◌}
 use Rattle.fb_bytes.specs.declared.bad_buffer.BadBuffer.{BadBuffer}
 use Rattle.fb_bytes.specs.Reading.{TableAt, scalar_of, table_of}
+use Rattle.sub_types.specs.ResultSteps.{◌>>=◌}
 use Rattle.arrow_meta.specs.declared.error.MetaError.{MetaError}
 use Rattle.arrow_meta.specs.declared.error.MetaError.TheVariants as errors
-
--- the first step and then the second, unless the first can't be read
-infixl 10 ◌>>=◌
-abbrev pub ◌>>=◌ : {A B : Type 0} → Result A MetaError → (A → Result B MetaError) → Result B MetaError
-(Ok x) >>= f = f x
-(Err e) >>= f = Err e
 
 abbrev pub looked : {A : Type 0} → Result A BadBuffer → Result A MetaError
 looked (Ok x) = Ok x
@@ -23,11 +18,6 @@ present None = Err errors.Bad
 -- what is only readable where a test holds
 abbrev pub when : {A : Type 0} → Bool → Result A MetaError → Result A MetaError
 when test read = if test then read else Err errors.Bad
-
--- all of them, or the first that can't be read
-abbrev pub collect : {A : Type 0} → List (Result A MetaError) → Result (List A) MetaError
-collect [] = Ok []
-collect (read ∷ reads) = read >>= λ x. collect reads >>= λ xs. Ok (x ∷ xs)
 
 -- the number in a slot, or its default where it is absent
 unfoldable pub number_in : TableAt → ℕ → ℕ → ℕ → Result ℕ MetaError

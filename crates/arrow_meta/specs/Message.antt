@@ -6,7 +6,8 @@ use Rattle.fb_bytes.specs.Reading.{TableAt, VectorAt, root_of, table_of, vector_
 use Rattle.arrow_meta.specs.declared.error.MetaError.{MetaError}
 use Rattle.arrow_meta.specs.declared.error.MetaError.TheVariants.{Compressed}
 use Rattle.arrow_meta.specs.declared.meta.RecordMeta.{RecordMeta}
-use Rattle.arrow_meta.specs.Looked.{◌>>=◌, looked, when, number_in, table_in, is_version}
+use Rattle.arrow_meta.specs.Looked.{looked, when, number_in, table_in, is_version}
+use Rattle.sub_types.specs.ResultSteps.{◌>>=◌}
 use Rattle.arrow_meta.specs.Footer.{each_of}
 
 -- the header of a message, which is of this tag in the union MessageHeader

@@ -6,7 +6,8 @@ use Rattle.byteorder.specs.Endian.{little_number}
 use Rattle.arrow_meta.specs.declared.meta.Block.{Block}
 use Rattle.arrow_meta.specs.File.{magic}
 use Rattle.arrow_meta.specs.Messages.{Place}
-use Rattle.arrow_meta.specs.Optional.{◌>>=◌, when, natural}
+use Rattle.arrow_meta.specs.Natural.{natural}
+use Rattle.sub_types.specs.OptionSteps.{◌>>=◌, when}
 
 -- the signed number in the four bytes at a place
 abbrev pub signed_at : List ℕ → ℕ → ℤ

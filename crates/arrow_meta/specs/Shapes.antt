@@ -9,7 +9,8 @@ use Rattle.arrow_meta.specs.declared.field.Shape.{Shape}
 use Rattle.arrow_meta.specs.declared.field.Shape.TheVariants.{Known, Skip}
 use Rattle.arrow_meta.specs.declared.shape.IntType.{IntType}
 use Rattle.arrow_meta.specs.declared.shape.Encoding.{Encoding}
-use Rattle.arrow_meta.specs.Looked.{◌>>=◌, looked, number_in, table_in}
+use Rattle.arrow_meta.specs.Looked.{looked, number_in, table_in}
+use Rattle.sub_types.specs.ResultSteps.{◌>>=◌}
 
 -- a whole number type: its width in bits, and whether it has a sign
 unfoldable pub int_in : TableAt → Result IntType MetaError

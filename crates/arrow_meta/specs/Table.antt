@@ -9,7 +9,7 @@ use Rattle.sub_types.specs.declared.kind.Ty.{Ty}
 use Rattle.sub_types.specs.declared.value.Value.{Value}
 use Rattle.arrow_meta.specs.declared.field.FieldMeta.{FieldMeta}
 use Rattle.arrow_meta.specs.declared.field.Shape.TheVariants.{Known, Skip}
-use Rattle.arrow_meta.specs.Optional.{◌>>=◌, all_of}
+use Rattle.sub_types.specs.OptionSteps.{◌>>=◌, all_of}
 use Rattle.arrow_meta.specs.Batch.{Wanted, buffers_of, rows_in}
 use Rattle.arrow_meta.specs.Dictionary.{ColumnDictionary}
 use Rattle.arrow_meta.specs.Head.{Head, head_of, footer_place, block_body}

@@ -13,7 +13,8 @@ use Rattle.sub_types.specs.declared.kind.Kind.TheVariants as kinds
 use Rattle.sub_types.specs.declared.value.Value.{Value}
 use Rattle.arrow_meta.specs.declared.field.Layout.{Layout}
 use Rattle.arrow_meta.specs.declared.field.Layout.TheVariants.{Plain, Wide, Index}
-use Rattle.arrow_meta.specs.Optional.{◌>>=◌, when, all_of, natural}
+use Rattle.arrow_meta.specs.Natural.{natural}
+use Rattle.sub_types.specs.OptionSteps.{◌>>=◌, when, all_of}
 
 -- the first so many bits
 unfoldable pub bits_in : ℕ → List ℕ → Option (List Bool)

@@ -8,7 +8,8 @@ use Rattle.arrow_meta.specs.declared.meta.Block.{Block}
 use Rattle.arrow_meta.specs.declared.meta.RecordMeta.{RecordMeta}
 use Rattle.arrow_meta.specs.Messages.{Place}
 use Rattle.arrow_meta.specs.Message.{record_in}
-use Rattle.arrow_meta.specs.Optional.{◌>>=◌, when, natural}
+use Rattle.arrow_meta.specs.Natural.{natural}
+use Rattle.sub_types.specs.OptionSteps.{◌>>=◌, when}
 use Rattle.arrow_meta.specs.Places.{place_in}
 use Rattle.arrow_meta.specs.Footer.{Footer}
 use Rattle.arrow_meta.specs.Head.{Head, head_with, head_of, footer_place, record_at, read_at, block_metadata, block_body}

@@ -3,7 +3,8 @@ use Rattle.std.proofs.Common.{◌≡◌, ℕ, ◌-◌, ◌≤◌, List, length, 
 use Rattle.std.specs.Option.{ok_or}
 use Rattle.arrow_meta.specs.Footer.{Footer}
 use Rattle.arrow_meta.specs.Places.{is_arrow, footer_size}
-use Rattle.arrow_meta.specs.Head.{◌>>=◌, Refusal, NotArrow, BadFooter, Compressed, Head, unless, footer_place, footer_at, has_compression, head_with, head_of}
+use Rattle.arrow_meta.specs.Head.{Refusal, NotArrow, BadFooter, Compressed, Head, unless, footer_place, footer_at, has_compression, head_with, head_of}
+use Rattle.sub_types.specs.ResultSteps.{◌>>=◌}
 use Rattle.arrow_read.proofs.MetaLaws.{said_same}
 
 -- the head of a file with its footer at a place

@@ -8,7 +8,8 @@ use Rattle.byteorder.specs.Endian.{little_number}
 use Rattle.byteorder.specs.Numbers.{little_from-take}
 use Rattle.arrow_meta.specs.File.{magic}
 use Rattle.arrow_meta.specs.Messages.{Place}
-use Rattle.arrow_meta.specs.Optional.{◌>>=◌, when, natural}
+use Rattle.arrow_meta.specs.Natural.{natural}
+use Rattle.sub_types.specs.OptionSteps.{◌>>=◌, when}
 use Rattle.arrow_meta.specs.Places.{is_arrow, signed_at, footer_size, metadata_in}
 use Rattle.arrow_meta.specs.Head.{NotArrow, BadFooter, footer_place}
 use Rattle.arrow_read.specs.Sizes.{size_of_footer, size_of_metadata}

@@ -5,7 +5,7 @@ use Rattle.std.specs.Ordering.{int_eq}
 use Rattle.std.specs.Option.{option_map}
 use Rattle.std.proofs.lemmas.List.Folds.{list_all-append}
 use Rattle.arrow_meta.specs.declared.meta.RecordMeta.{RecordMeta}
-use Rattle.arrow_meta.specs.Optional.{◌>>=◌, when, all_of}
+use Rattle.sub_types.specs.OptionSteps.{◌>>=◌, when, all_of}
 use Rattle.arrow_meta.specs.Batch.{count_in, column_buffers}
 use Rattle.arrow_meta.specs.Values.{validity_in, binaries_in, texts_in, is_text}
 use Rattle.arrow_meta.specs.Dictionary.{DictionaryBlock, block_texts, buffer_texts, batch_texts, are_deltas, joined, texts_of, dictionary_texts}

@@ -3,7 +3,8 @@ use Rattle.std.specs.Prelude.{ℕ, ◌+◌, List, take, drop, replicate, Option,
 use Rattle.std.specs.Int.{w32, cast_signed}
 use Rattle.std.specs.Str.{bytes_eq}
 use Rattle.byteorder.specs.Endian.{little_number}
-use Rattle.arrow_meta.specs.Optional.{◌>>=◌, when, natural}
+use Rattle.arrow_meta.specs.Natural.{natural}
+use Rattle.sub_types.specs.OptionSteps.{◌>>=◌, when}
 
 -- the size of the footer of a file of a length, from the bytes in which it stands
 abbrev pub size_of_footer : ℕ → List ℕ → Option ℕ

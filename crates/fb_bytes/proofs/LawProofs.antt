@@ -3,7 +3,8 @@ use Rattle.std.proofs.Common.{◌≡◌, ◌≤◌, ◌<◌, ◌+◌, ◌*◌, �
 use Rattle.byteorder.specs.Endian.{little_bytes}
 use Rattle.fb_bytes.specs.declared.bad_buffer.BadBuffer.{BadBuffer}
 use Rattle.fb_bytes.specs.Layout.{Laid, Part, behind, slot_count, fields_width, cells, filled, table_place, table_end, table_own, table_laid, in_order, tables_laid, structs_laid, text_laid, buffer_of}
-use Rattle.fb_bytes.specs.Reading.{◌>>=◌, when_present, number_at, offset_at, TableAt, root_of, table_at, reference_of, scalar_of, table_of, vector_at, vector_of, text_at, text_of, table_item}
+use Rattle.fb_bytes.specs.Reading.{when_present, number_at, offset_at, TableAt, root_of, table_at, reference_of, scalar_of, table_of, vector_at, vector_of, text_at, text_of, table_item}
+use Rattle.sub_types.specs.ResultSteps.{◌>>=◌}
 use Rattle.fb_bytes.specs.ReadBack.{AreParts}
 use Rattle.fb_bytes.specs.Laws.{RootReadsBack, TableReadsBack, TablesReadBack, ItemReadsBack, StructsReadBack, TextReadsBack, AbsenceReadsBack, LaidIsNear, LaidLengths}
 use Rattle.fb_bytes.proofs.CellLemmas.{shapes-cells}

@@ -7,7 +7,8 @@ use Rattle.std.specs.Int.{cast_signed, w32}
 use Rattle.byteorder.specs.Endian.{little_bytes, little_number}
 use Rattle.byteorder.specs.Numbers.{length-bytes_low_first, little_from-bytes}
 use Rattle.fb_bytes.specs.declared.bad_buffer.BadBuffer.{BadBuffer}
-use Rattle.fb_bytes.specs.Reading.{bad, ◌>>=◌, number_at, offset_at, vtable_size, whole_vtable, with_size, with_vtable, table_at}
+use Rattle.fb_bytes.specs.Reading.{bad, number_at, offset_at, vtable_size, whole_vtable, with_size, with_vtable, table_at}
+use Rattle.sub_types.specs.ResultSteps.{◌>>=◌}
 
 pub fits : {A : Type 0} (m n : ℕ) (x y : A) → m ≤ n → cond (leb m n) x y ≡ x
 fits m n x y h = grind arith

@@ -7,7 +7,8 @@ use Rattle.byteorder.specs.Endian.{little_bytes, little_number}
 use Rattle.fb_bytes.specs.declared.bad_buffer.BadBuffer.{BadBuffer}
 use Rattle.fb_bytes.specs.Layout.{Laid, Part, Number, Offset, part_slot, slot_count, fields_width, part_at, Cell, Value, Target, cell_slot, cell_width, cells, behind, by_width, cell_bytes, row_bytes, entry, entries, round_up, filled, vtable, table_place, table_end, table_own, table_laid}
 use Rattle.fb_bytes.specs.Object.{IsWidth}
-use Rattle.fb_bytes.specs.Reading.{number_at, offset_at, TableAt, vtable_size, table_at, entry_of, field_of, ◌>>=◌, when_present, scalar_of, reference_of}
+use Rattle.fb_bytes.specs.Reading.{number_at, offset_at, TableAt, vtable_size, table_at, entry_of, field_of, when_present, scalar_of, reference_of}
+use Rattle.sub_types.specs.ResultSteps.{◌>>=◌}
 use Rattle.fb_bytes.specs.ReadBack.{LeadsTo, AreParts, ReadsSlot, ReadsTable}
 use Rattle.fb_bytes.proofs.CellLemmas.{shapes, part_shapes, shapes-cells, Lacks, Lacks-by_widths, entry_same, entry_absent, row_width, length-cell_bytes}
 use Rattle.fb_bytes.proofs.TableLemmas.{LacksIn, AreParts-behind, slot_count-bound, length-parts-bound, fields_width-bound, row_width-parts, LacksIn-front, LacksIn-back, Lacks-parts, table_place-least, table_place-bound, length-vtable, length-own-filled, length-table_own, own_round, round_up-least, length-entries}

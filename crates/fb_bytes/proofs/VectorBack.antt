@@ -8,7 +8,8 @@ use Rattle.byteorder.specs.Endian.{little_bytes}
 use Rattle.fb_bytes.specs.declared.bad_buffer.BadBuffer.{BadBuffer}
 use Rattle.fb_bytes.specs.Layout.{Laid, round_up, filled, offsets, in_order, tables_laid, structs_laid, text_laid, buffer_of}
 use Rattle.fb_bytes.specs.Object.{AreStructs}
-use Rattle.fb_bytes.specs.Reading.{bad, ◌>>=◌, offset_at, VectorAt, vector_at, item_of, elements_of, text_at}
+use Rattle.fb_bytes.specs.Reading.{bad, offset_at, VectorAt, vector_at, item_of, elements_of, text_at}
+use Rattle.sub_types.specs.ResultSteps.{◌>>=◌}
 use Rattle.fb_bytes.specs.ReadBack.{LeadsTo, IsNear, AreNear, ReadsItem, ReadsTables, ReadsStructs}
 use Rattle.fb_bytes.proofs.TableLemmas.{length-filled, round_up-least}
 use Rattle.fb_bytes.proofs.BegunLemmas.{in_order-append, length-offsets}

@@ -5,6 +5,7 @@ use Rattle.std.specs.Borrow.{Bor}
 use Rattle.std.specs.Int.{cast_signed, w32}
 use Rattle.std.specs.Option.{option_map}
 use Rattle.byteorder.specs.Endian.{little_number}
+use Rattle.sub_types.specs.ResultSteps.{◌>>=◌}
 use Rattle.fb_bytes.specs.declared.bad_buffer.BadBuffer.{BadBuffer}
 
 -- the item that begins at this place isn't inside the bytes
@@ -13,12 +14,6 @@ bad place = Err (record { place = place })
 
 abbrev pub bad_at : ℕ → BadBuffer
 bad_at place = record { place = pos place }
-
--- the first step and then the second, unless the first is bad
-infixl 10 ◌>>=◌
-abbrev pub ◌>>=◌ : {A B : Type 0} → Result A BadBuffer → (A → Result B BadBuffer) → Result B BadBuffer
-Ok x >>= f = f x
-Err e >>= f = Err e
 
 -- the number of so many bytes at a place
 unfoldable pub number_at : List ℕ → ℕ → ℕ → Result ℕ BadBuffer

@@ -9,7 +9,7 @@ use Rattle.plan_leaves.specs.declared.types.RawType.{RawType}
 use Rattle.plan_raw.specs.declared.source.VirtualTable.{VirtualTable, out-VirtualTable}
 use Rattle.plan_form.specs.Form.{MAX_COLUMNS, MAX_NAMES, is_within, is_empty, is_required_i64, row_of, table_rows}
 use Rattle.plan_form.specs.Rows.{values_in, AreRows}
-use Rattle.plan_form.specs.Steps.{all_of}
+use Rattle.sub_types.specs.OptionSteps.{all_of}
 use Rattle.plan_form.proofs.StepLaws.{and_parts, when_parts, when_true, is_some-all_of}
 use Rattle.plan_form.proofs.LiteralLaws.{rows-found}
 

@@ -20,7 +20,7 @@ use Rattle.batch.specs.Column.{column_values, column_type}
 use Rattle.batch.proofs.RowLaws.{transpose-from}
 use Rattle.plan_form.specs.Form.{literal_of, row_of}
 use Rattle.plan_form.specs.Rows.{literal_value, values_in, value_at, AreRows}
-use Rattle.plan_form.specs.Steps.{all_of}
+use Rattle.sub_types.specs.OptionSteps.{all_of}
 use Rattle.plan_form.proofs.StepLaws.{is_some-all_of, all_of-found, all_of-each, and_parts, when_parts, when_true}
 
 -- what a row of the form is

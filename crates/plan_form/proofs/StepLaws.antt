@@ -3,7 +3,7 @@ use Rattle.std.proofs.Common.{◌≡◌, ◌∙◌, sym, ap, refl, ℕ, suc, ◌
 use Rattle.std.specs.List.{All, list_all}
 use Rattle.std.proofs.lemmas.List.{append-nil, at_drop_more, at_drop_all}
 use Rattle.std.proofs.lemmas.List.Elements.{All-head, All-tail}
-use Rattle.plan_form.specs.Steps.{◌>>=◌, when, all_of}
+use Rattle.sub_types.specs.OptionSteps.{◌>>=◌, when, all_of}
 
 -- what was found so far before the rest
 abbrev pub after : {A : Type 0} → List A → Option (List A) → Option (List A)

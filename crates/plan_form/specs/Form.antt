@@ -1,6 +1,6 @@
 -- The form of plan that is run: a root over a read of a named table, or of a virtual table of required 64-bit whole
 -- numbers, without an emit, a filter and a projection (Substrait's `Plan` and `ReadRel`).
-use Rattle.std.specs.Prelude.{ℕ, ◌+◌, ℤ, pos, ◌/◌, List, [], Bool, true, false, Option, Some, None, ◌&&◌, not, ◌==◌, nat_le, map, length, is_none}
+use Rattle.std.specs.Prelude.{ℕ, ◌+◌, ℤ, pos, ◌/◌, List, [], ◌∷◌, Bool, true, false, Option, Some, None, ◌&&◌, not, ◌==◌, nat_le, map, length, is_none}
 use Rattle.std.specs.Fork.{slice_chunk}
 use Rattle.std.specs.List.{list_all, sum_by, range_with_len, join_with_byte}
 use Rattle.sub_types.specs.declared.kind.Kind.{Kind}
@@ -21,7 +21,7 @@ use Rattle.plan_leaves.specs.declared.common.RelCommon.{RelCommon}
 use Rattle.plan_leaves.specs.declared.common.RelCommon.TheVariants as commons
 use Rattle.plan_raw.specs.declared.rel.RawRel.{RawRel, out-RawRel}
 use Rattle.plan_raw.specs.declared.argument.FunctionArgument.TheOpen.{RawRel-F, RawSource-F}
-use Rattle.plan_form.specs.Steps.{◌>>=◌, when, only, all_of}
+use Rattle.sub_types.specs.OptionSteps.{◌>>=◌, when, all_of}
 
 -- the most columns
 abbrev pub MAX_COLUMNS : ℕ
@@ -50,6 +50,11 @@ pub record Form : Type 0 where
 abbrev pub is_empty : {A : Type 0} → List A → Bool
 is_empty [] = true
 is_empty _ = false
+
+-- the one element of a list
+abbrev pub only : {A : Type 0} → List A → Option A
+only (x ∷ []) = Some x
+only _ = None
 
 -- a type of this kind: 2 is required, every other number nullable
 abbrev pub type_as : Kind → ℕ → Ty

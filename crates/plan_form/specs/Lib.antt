@@ -1,4 +1,3 @@
-pub mod Steps
 pub mod Form
 pub mod Rows
 pub mod Seen

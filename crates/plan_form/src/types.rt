@@ -4,7 +4,7 @@ ghost use Rattle.std.specs.List.{All};
 ghost use Rattle.std.specs.Option.{option_map};
 ghost use Rattle.sub_types.specs.Kind.{IsKind};
 ghost use Rattle.plan_form.specs.Form as spec;
-ghost use Rattle.plan_form.specs.Steps.{all_of};
+ghost use Rattle.sub_types.specs.OptionSteps.{all_of};
 
 use plan_leaves::RawType;
 use std::alloc::Global;

@@ -24,7 +24,7 @@ use Rattle.run_top.specs.declared.plan.Found.{Found}
 use Rattle.run_top.specs.declared.plan.Found.TheVariants as found
 use Rattle.run_top.specs.Words.{Reading, reading_of}
 use Rattle.run_top.specs.Found.{IsFound}
-use Rattle.run_top.specs.Steps.{◌>>=◌}
+use Rattle.sub_types.specs.ResultSteps.{◌>>=◌}
 use Rattle.run_top.specs.Answer.{MAX_PLAN, answer, tree_in, form_in, batch_count, done_with, done_in, source_table}
 use Rattle.run_top.specs.Tables.{Table, named_table}
 use Rattle.run_top.specs.TableSeen.{table_seen}

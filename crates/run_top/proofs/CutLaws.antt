@@ -10,7 +10,7 @@ use Rattle.table_rows.specs.Read.{read_row}
 use Rattle.run_top.specs.declared.status.Status.{Status}
 use Rattle.run_top.specs.declared.status.Status.TheVariants as status
 use Rattle.run_top.specs.Words.{Reading}
-use Rattle.run_top.specs.Steps.{◌>>=◌}
+use Rattle.sub_types.specs.ResultSteps.{◌>>=◌}
 use Rattle.run_top.specs.Tables.{all_blocks, count_blocks, table_stream, whole}
 use Rattle.run_top.specs.Answer.{MAX_ROWS, SameRowsSameFile, done_of, done_with}
 

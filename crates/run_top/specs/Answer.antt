@@ -19,7 +19,7 @@ use Rattle.table_open.specs.declared.error.FileRule.TheVariants as file_rules
 use Rattle.run_top.specs.declared.status.Report.{Report}
 use Rattle.run_top.specs.declared.status.PipeReceipt.{PipeReceipt}
 use Rattle.run_top.specs.Words.{Reading, reading_of}
-use Rattle.run_top.specs.Steps.{◌>>=◌}
+use Rattle.sub_types.specs.ResultSteps.{◌>>=◌}
 use Rattle.table_open.specs.Files.{TableFile}
 use Rattle.run_top.specs.Tables.{Table, all_blocks, count_blocks, table_stream, whole, named_table}
 use Rattle.run_top.specs.TableRead.{IsTableRefusal}

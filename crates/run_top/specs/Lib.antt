@@ -4,7 +4,6 @@ pub mod Lines
 pub mod Said
 pub mod Found
 pub mod Alone
-pub mod Steps
 pub mod Tables
 pub mod TableSeen
 pub mod TableRead

@@ -11,7 +11,7 @@ use Rattle.table_rows.specs.Read.{read_row}
 use Rattle.table_rows.specs.Blocks.{file_streams}
 use Rattle.run_top.specs.declared.status.Status.{Status}
 use Rattle.run_top.specs.declared.status.Status.TheVariants as status
-use Rattle.run_top.specs.Steps.{◌>>=◌}
+use Rattle.sub_types.specs.ResultSteps.{◌>>=◌}
 
 -- the rows of a table, and in how many batches they are read
 pub record Table : Type 0 where

@@ -9,3 +9,5 @@ pub mod PartLaws
 pub mod Slots
 pub mod Rows
 pub mod Nullable
+pub mod OptionSteps
+pub mod ResultSteps

@@ -13,7 +13,7 @@ use Rattle.arrow_meta.specs.declared.field.Shape.TheVariants.{Known, Skip}
 use Rattle.arrow_read.specs.Known.{known_shape, known_column}
 use Rattle.table_open.specs.declared.error.FileRule.{FileRule}
 use Rattle.table_open.specs.declared.error.FileRule.TheVariants.{WrongType}
-use Rattle.table_open.specs.Results.{collect}
+use Rattle.sub_types.specs.ResultSteps.{collect}
 use Rattle.table_open.specs.Columns.{is_kind, has_kind, is_named, match_place, match_column, match_one, match_columns}
 use Rattle.table_open.specs.Ready.{kind_at}
 use Rattle.table_open.specs.declared.error.FileError.{FileError}

@@ -3,7 +3,7 @@ use Rattle.std.proofs.Common.{◌≡◌, ◌∙◌, List, [], ◌∷◌, ◌++�
 use Rattle.std.specs.List.{All}
 use Rattle.std.proofs.lemmas.List.{append-nil}
 use Rattle.std.proofs.lemmas.List.Elements.{All-nil, All-cons}
-use Rattle.table_open.specs.Results.{◌>>=◌, collect}
+use Rattle.sub_types.specs.ResultSteps.{◌>>=◌, collect}
 
 -- the values so far, and then those of the steps that are left, unless one of them refuses
 abbrev pub followed : {X A E : Type 0} → (X → Result A E) → List A → List X → Result (List A) E

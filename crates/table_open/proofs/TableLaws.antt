@@ -7,7 +7,7 @@ use Rattle.table_open.specs.declared.error.FileRule.{FileRule}
 use Rattle.table_open.specs.declared.error.TableError.{TableError}
 use Rattle.table_open.specs.declared.error.TableError.TheVariants as table_errors
 use Rattle.table_open.specs.declared.file.OpenFile.{OpenFile}
-use Rattle.table_open.specs.Results.{collect}
+use Rattle.sub_types.specs.ResultSteps.{collect}
 use Rattle.table_open.specs.Words.{bound_file, bindings_of}
 use Rattle.table_open.specs.Files.{TableFile, open_one, bound_files, table_files}
 use Rattle.table_open.specs.Answers.{FitsTable}

@@ -11,7 +11,7 @@ use Rattle.arrow_meta.specs.declared.field.Shape.{Shape}
 use Rattle.arrow_meta.specs.declared.field.Shape.TheVariants.{Known, Skip}
 use Rattle.table_open.specs.declared.error.FileRule.{FileRule}
 use Rattle.table_open.specs.declared.error.FileRule.TheVariants.{NoColumn, WrongType}
-use Rattle.table_open.specs.Results.{collect}
+use Rattle.sub_types.specs.ResultSteps.{collect}
 
 -- the kinds are equal; decimals with precision and scale
 abbrev pub is_kind : Kind → Kind → Bool

@@ -8,7 +8,7 @@ use Rattle.arrow_meta.specs.Head.{Head, Refusal, head_of}
 use Rattle.arrow_meta.specs.Head as heads
 use Rattle.table_open.specs.declared.error.FileRule.{FileRule}
 use Rattle.table_open.specs.declared.error.FileRule.TheVariants as rules
-use Rattle.table_open.specs.Results.{◌>>=◌, collect}
+use Rattle.sub_types.specs.ResultSteps.{◌>>=◌, collect}
 use Rattle.table_open.specs.Words.{bindings_of}
 use Rattle.table_open.specs.Columns.{match_columns}
 

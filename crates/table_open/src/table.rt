@@ -5,7 +5,7 @@ ghost use Rattle.world.specs.Files.{Files};
 ghost use Rattle.world.specs.Reads.{joined_reads};
 ghost use Rattle.table_open.specs.Answers.{FitsTable, IsBoundRefusal, IsTableError};
 ghost use Rattle.table_open.specs.Files as spec;
-ghost use Rattle.table_open.specs.Results.{collect};
+ghost use Rattle.sub_types.specs.ResultSteps.{collect};
 ghost use Rattle.table_open.specs.Words.{bindings_of};
 ghost use Rattle.table_open.specs.Ready.{file_seen, IsReady};
 ghost use Rattle.table_open.specs.Opened.{AreOpened};

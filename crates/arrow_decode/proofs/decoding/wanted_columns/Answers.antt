@@ -6,7 +6,7 @@ use Rattle.sub_types.specs.declared.kind.Kind.{Kind}
 use Rattle.sub_types.specs.declared.value.Value.{Value}
 use Rattle.arrow_meta.specs.declared.field.Layout.{Layout}
 use Rattle.arrow_meta.specs.Batch.{column_in, columns_in}
-use Rattle.arrow_meta.specs.Optional.{all_of}
+use Rattle.sub_types.specs.OptionSteps.{all_of}
 use Rattle.batch.specs.declared.column.Column.{Column}
 use Rattle.batch.specs.Column.{column_values, column_type}
 use Rattle.batch.specs.ColumnValues.{values_of}

@@ -1,7 +1,7 @@
 use Rattle.std.proofs.Common.{◌≡◌, Some, length, map, take}
 use Rattle.std.specs.List.{All}
 use Rattle.arrow_meta.specs.Batch.{column_in}
-use Rattle.arrow_meta.specs.Optional.{all_of}
+use Rattle.sub_types.specs.OptionSteps.{all_of}
 use Rattle.batch.specs.Column.{column_values, column_type}
 use Rattle.batch.specs.ColumnValues.{values_of}
 use Rattle.arrow_decode.specs.Seen.{wanted_with, wanted_type}

@@ -1,7 +1,7 @@
 use Rattle.std.proofs.Common.{◌∙◌, Some, map, ap, sym, arith}
 use Rattle.std.specs.Option.{option_map, option_copied}
 use Rattle.std.proofs.lemmas.List.{take_all}
-use Rattle.arrow_meta.specs.Optional.{all_of}
+use Rattle.sub_types.specs.OptionSteps.{all_of}
 use Rattle.arrow_meta.specs.Values.{named_value}
 use Rattle.arrow_decode.proofs.IndexLaws.{optional_indices, encoded_in-short, encoded_in-long, length-optional_indices, named_at, names_nothing, named_more, room_for_index}
 use Rattle.arrow_decode.proofs.index.encoded.Goals as goal

@@ -1,5 +1,5 @@
 use Rattle.std.proofs.Common.{◌≡◌, Some, map, take}
-use Rattle.arrow_meta.specs.Optional.{all_of}
+use Rattle.sub_types.specs.OptionSteps.{all_of}
 use Rattle.arrow_meta.specs.Values.{named_value}
 use Rattle.arrow_decode.proofs.IndexLaws.{optional_indices}
 use Rattle.arrow_decode.proofs.index.encoded.Given as goal

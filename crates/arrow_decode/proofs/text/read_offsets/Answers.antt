@@ -1,6 +1,6 @@
 use Rattle.std.proofs.Common.{rules, ◌≡◌, ◌∙◌, ◌+◌, ◌*◌, ◌∷◌, [], ℕ, Some, map, ap, sym, arith}
 use Rattle.std.specs.List.{range_with_len}
-use Rattle.arrow_meta.specs.Optional.{all_of}
+use Rattle.sub_types.specs.OptionSteps.{all_of}
 use Rattle.arrow_decode.specs.Offsets.{offsets_of}
 use Rattle.arrow_decode.proofs.TextLaws.{place_at, offsets_of-none, offsets_of-short, offsets_of-long, offsets_of-negative, more_offsets, room_for_offset}
 use Rattle.arrow_decode.proofs.text.read_offsets.Goals as goal

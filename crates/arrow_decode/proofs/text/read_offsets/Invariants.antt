@@ -1,6 +1,7 @@
 use Rattle.std.proofs.Common.{◌≡◌, Some, map, vec_len}
 use Rattle.std.specs.List.{range_with_len}
-use Rattle.arrow_meta.specs.Optional.{all_of, natural}
+use Rattle.arrow_meta.specs.Natural.{natural}
+use Rattle.sub_types.specs.OptionSteps.{all_of}
 use Rattle.arrow_decode.specs.Offsets.{offset_number}
 use Rattle.arrow_decode.proofs.text.read_offsets.Given as goal
 

@@ -1,7 +1,7 @@
 use Rattle.std.proofs.Common.{◌≡◌, IsOk, vec_len}
 use Rattle.std.specs.List.{All}
 use Rattle.arrow_meta.specs.Known.{IsShape}
-use Rattle.arrow_meta.specs.Looked.{◌>>=◌}
+use Rattle.sub_types.specs.ResultSteps.{◌>>=◌}
 use Rattle.arrow_meta.specs.Footer.{field_at, columns_from}
 use Rattle.arrow_meta.specs.Seen.{columns_of, items_of}
 use Rattle.arrow_meta.proofs.CollectLaws.{rest_of, prefixed}

@@ -1,7 +1,7 @@
 use Rattle.std.proofs.Common.{◌≡◌, ◌∙◌, ◌≤◌, sym, ap, length, true, map, List, ℕ, subst}
 use Rattle.std.specs.List.{sum_by}
 use Rattle.plan_form.specs.Form as spec
-use Rattle.plan_form.specs.Steps.{all_of}
+use Rattle.sub_types.specs.OptionSteps.{all_of}
 use Rattle.plan_form.proofs.StepLaws.{length-all_of}
 use Rattle.plan_form.proofs.FormLaws.{within-parts}
 use Rattle.plan_form.proofs.form.form_over.Goals as goal

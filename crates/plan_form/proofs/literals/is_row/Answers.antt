@@ -1,7 +1,7 @@
 use Rattle.std.proofs.Common.{◌∙◌, sym, ap, map, Option, List, is_some, length, ◌==◌, eq-eqb}
 use Rattle.sub_types.specs.declared.value.Value.{Value}
 use Rattle.plan_form.specs.Form as spec
-use Rattle.plan_form.specs.Steps.{all_of}
+use Rattle.sub_types.specs.OptionSteps.{all_of}
 use Rattle.plan_form.proofs.StepLaws.{is_some-all_of, when_true}
 use Rattle.plan_form.proofs.literals.is_row.Goals as goal
 

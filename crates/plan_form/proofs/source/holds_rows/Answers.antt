@@ -3,7 +3,7 @@ use Rattle.std.specs.List.{list_all}
 use Rattle.sub_types.specs.declared.value.Value.{Value}
 use Rattle.plan_raw.specs.declared.source.VirtualTable.{out-VirtualTable}
 use Rattle.plan_form.specs.Form as spec
-use Rattle.plan_form.specs.Steps.{all_of}
+use Rattle.sub_types.specs.OptionSteps.{all_of}
 use Rattle.plan_form.proofs.StepLaws.{is_some-all_of, when_true}
 use Rattle.plan_form.proofs.source.holds_rows.Goals as goal
 

@@ -3,7 +3,7 @@ use Rattle.std.proofs.lemmas.List.{append-nil}
 use Rattle.std.proofs.lemmas.Result.{err_from_is_err_and}
 use Rattle.std.proofs.lemmas.List.Elements.{All-nil, All-push}
 use Rattle.table_open.specs.declared.file.OpenFile.{OpenFile}
-use Rattle.table_open.specs.Results.{collect}
+use Rattle.sub_types.specs.ResultSteps.{collect}
 use Rattle.table_open.specs.Words.{bound_file, bindings_of}
 use Rattle.table_open.specs.Files.{open_one}
 use Rattle.table_open.specs.Ready.{IsReady}

@@ -1,6 +1,6 @@
 use Rattle.std.proofs.Common.{◌≡◌, ◌≤◌, ◌++◌, map, Some, IsSome, All}
 use Rattle.world.specs.Files.{Files}
-use Rattle.table_open.specs.Results.{collect}
+use Rattle.sub_types.specs.ResultSteps.{collect}
 use Rattle.table_open.specs.Words.{bindings_of}
 use Rattle.table_open.specs.Files.{open_one}
 use Rattle.table_open.specs.Ready.{file_seen, IsReady}

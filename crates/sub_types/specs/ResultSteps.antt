@@ -1,7 +1,7 @@
--- Steps that may refuse, one after another.
+-- Steps that may be refused, one after the other.
 use Rattle.std.specs.Prelude.{List, [], ◌∷◌, Result, Ok, Err}
 
--- the first step and then the second, unless one refuses
+-- the first step and then the second, unless the first is refused
 infixl 10 ◌>>=◌
 abbrev pub ◌>>=◌ : {A B E : Type 0} → Result A E → (A → Result B E) → Result B E
 (Ok x) >>= f = f x

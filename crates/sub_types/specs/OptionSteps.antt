@@ -1,5 +1,5 @@
 -- Values that may be missing, one step after the other.
-use Rattle.std.specs.Prelude.{ℕ, ℤ, pos, negsuc, List, [], ◌∷◌, Bool, Option, Some, None, if◌then◌else◌}
+use Rattle.std.specs.Prelude.{List, [], ◌∷◌, Bool, Option, Some, None, if◌then◌else◌}
 
 -- the first step and then the second, unless the first gives nothing
 infixl 10 ◌>>=◌
@@ -14,9 +14,7 @@ when test found = if test then found else None
 -- all of them, or nothing where one is missing
 abbrev pub all_of : {A : Type 0} → List (Option A) → Option (List A)
 all_of [] = Some []
-all_of (found ∷ rest) = found >>= λ x. all_of rest >>= λ xs. Some (x ∷ xs)
-
--- a number that isn't below 0
-abbrev pub natural : ℤ → Option ℕ
-natural (pos n) = Some n
-natural (negsuc n) = None
+all_of (found ∷ rest) = do
+  x ← found
+  xs ← all_of rest
+  Some (x ∷ xs)
