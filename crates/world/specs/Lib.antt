@@ -5,3 +5,5 @@ pub mod Notes
 pub mod Table
 pub mod Told
 pub mod PlanView
+pub mod Lent
+pub mod Planned

@@ -7,6 +7,7 @@ mod error;
 mod file_table;
 mod folder;
 mod gate;
+mod lent;
 mod mem_folder;
 mod mem_notes;
 mod mem_reader;

@@ -1,11 +1,16 @@
 // A folder in memory, with failures that a test can plan.
-ghost use Rattle.std.specs.Prelude.{◌≡◌, ◌≤◌, ◌++◌, ◌∷◌, [], Some, true, OnOk, OnErr};
-ghost use Rattle.std.specs.Option.{option_copied};
+ghost use Rattle.std.specs.Prelude.{◌≡◌, ◌-◌, ◌≤◌, ◌↔◌, ◌++◌, ◌∷◌, [], Some, None, Err, true, false, IsTrue, IsSome, IsSomeAnd, OnOk, OnErr, IfOk, IfErr, IfSome, if◌then◌else◌, is_ok, take};
+ghost use Rattle.std.specs.Option.{option_copied, option_map};
 ghost use Rattle.std.specs.FinMap as map;
-ghost use Rattle.world.specs.Counts.{sum_of_counts};
+ghost use Rattle.world.specs.Counts.{HasCause, IsStill, sum_of_counts};
+ghost use Rattle.world.specs.Files.{AppendLeaves, Has, IsLookup, appended, written};
+ghost use Rattle.world.specs.Lent.{lent_after};
+ghost use Rattle.world.specs.Planned.{IsPlanned, appends_after, failed_append, for_reader, is_named};
+ghost use Rattle.world.specs.Reads.{IsFresh, joined_reads};
 ghost use Rattle.world.specs.Told.{Told, Plan, no_failures};
 
 use crate::file_table::FileTable;
+use crate::lent::one_more;
 use crate::mem_reader::MemReader;
 use crate::plan::FailurePlan;
 use crate::{Folder, FolderError};
@@ -24,6 +29,7 @@ pub struct MemFolder {
     write_faults: u64,
     plan: FailurePlan,
     appended: u32,
+    lent: u64,
 }
 
 impl Model for MemFolder {
@@ -42,13 +48,14 @@ impl Model for MemFolder {
       write_faults = folder.write_faults;
       plan = plan_of folder.plan;
       appended = folder.appended;
+      lent = folder.lent;
     } };
 }
 
 impl MemFolder {
     /// No files and no planned failures.
     pub fn new(alloc: Global) -> MemFolder
-        ensures { result ≡ record { files = map.empty; reads = []; read_faults = 0; write_faults = 0; plan = no_failures; appended = 0 } }
+        ensures { result ≡ record { files = map.empty; reads = []; read_faults = 0; write_faults = 0; plan = no_failures; appended = 0; lent = 0 } }
     {
         MemFolder {
             alloc,
@@ -58,6 +65,7 @@ impl MemFolder {
             write_faults: 0,
             plan: FailurePlan::new(alloc),
             appended: 0,
+            lent: 0,
         }
     }
 
@@ -81,6 +89,13 @@ impl MemFolder {
         ensures { result.now ≡ self.now.reads }
     {
         &self.reads
+    }
+
+    /// How many readers were given and not given back.
+    pub fn lent(&self) -> u64
+        ensures { result ≡ self.now.lent }
+    {
+        self.lent
     }
 
     /// Lets the `read_at` with index `k` of each reader of that name fail.
@@ -190,7 +205,18 @@ impl Folder for MemFolder {
 
     ghost write_faults = { λ folder. folder.write_faults };
 
-    fn reader(&mut self, _alloc: Global, name: &str) -> Result<Option<MemReader>, FolderError> {
+    ghost lent = { λ folder. folder.lent };
+
+    fn reader(&mut self, _alloc: Global, name: &str) -> Result<Option<MemReader>, FolderError>
+        ensures found { IfOk result (λ found. IsLookup (Some self.old.files) name.now (option_map (λ reader. Some reader.bytes) found)) }
+        ensures fresh { IfOk result (λ found. IfSome found (λ reader. IsFresh reader.faults (Some reader.reads))) }
+        ensures plan { IfOk result (λ found. IfSome found (λ reader. IsPlanned (for_reader self.old.plan name.now) reader)) }
+        ensures planned { (result ≡ Err FolderError.Failed) ↔ IsTrue (is_named name.now self.old.plan.opens) }
+        ensures cause { HasCause FolderError.Failed self.old.read_faults self.new.read_faults result }
+        ensures still { IsStill self.old.read_faults self.new.read_faults result }
+        ensures lent { self.new.lent ≡ lent_after result self.old.lent }
+        ensures others { self.new ≡ record self.old { read_faults = self.new.read_faults; lent = self.new.lent } }
+    {
         if self.plan.fails_to_open(name) {
             return Err(self.read_fault());
         }
@@ -199,16 +225,29 @@ impl Folder for MemFolder {
         };
         let bytes = Arc::new(self.alloc, bytes.to_vec(self.alloc)?)?;
         let plan = self.plan.of_reader(self.alloc, name)?;
+        self.lent = one_more(self.lent)?;
         Ok(Some(MemReader::new(self.alloc, bytes, plan)))
     }
 
-    fn give_back(&mut self, _alloc: Global, reader: MemReader) -> Result<(), NoMemory> {
+    fn give_back(&mut self, _alloc: Global, reader: MemReader) -> Result<(), NoMemory>
+        ensures reads { Some self.new.reads ≡ (if is_ok result then joined_reads (Some self.old.reads) (Some reader.reads) else Some self.old.reads) }
+        ensures never_falls { self.old.read_faults ≤ self.new.read_faults }
+        ensures others { self.new ≡ record self.old { reads = self.new.reads; read_faults = sum_of_counts self.old.read_faults reader.faults; lent = self.old.lent - 1 } }
+    {
+        self.lent = self.lent.saturating_sub(1);
         self.read_faults = self.read_faults.saturating_add(reader.faults());
         self.reads.extend_from_slice(reader.reads())?;
         Ok(())
     }
 
-    fn create(&mut self, _alloc: Global, name: &str) -> Result<(), FolderError> {
+    fn create(&mut self, _alloc: Global, name: &str) -> Result<(), FolderError>
+        ensures ok { OnOk result (Some self.new.files ≡ written (Some self.old.files) name.now []) }
+        ensures err { OnErr result (self.new.files ≡ self.old.files) }
+        ensures planned { (result ≡ Err FolderError.Failed) ↔ IsTrue self.old.plan.create }
+        ensures cause { HasCause FolderError.Failed self.old.write_faults self.new.write_faults result }
+        ensures still { IsStill self.old.write_faults self.new.write_faults result }
+        ensures others { self.new ≡ record self.old { files = self.new.files; write_faults = self.new.write_faults; plan = record self.old.plan { create = false } } }
+    {
         if self.plan.create {
             self.plan.create = false;
             return Err(self.write_fault());
@@ -216,7 +255,17 @@ impl Folder for MemFolder {
         Ok(self.files.put(name, Vec::new(self.alloc))?)
     }
 
-    fn append(&mut self, _alloc: Global, name: &str, piece: &[u8]) -> Result<(), FolderError> {
+    fn append(&mut self, _alloc: Global, name: &str, piece: &[u8]) -> Result<(), FolderError>
+        requires { Has (Some self.old.files) name.now }
+        ensures ok { OnOk result (Some self.new.files ≡ appended (Some self.old.files) name.now piece.now) }
+        ensures err { IfErr result (λ error. AppendLeaves error (Some self.old.files) (Some self.new.files) name.now piece.now) }
+        ensures kept { result ≡ Err FolderError.Failed → IsSomeAnd (failed_append self.old.plan self.old.appended) (λ kept. Some self.new.files ≡ appended (Some self.old.files) name.now (take kept piece.now)) }
+        ensures planned { OnOk result (failed_append self.old.plan self.old.appended ≡ None) }
+        ensures cause { HasCause FolderError.Failed self.old.write_faults self.new.write_faults result }
+        ensures still { IsStill self.old.write_faults self.new.write_faults result }
+        ensures others { self.new ≡ record self.old { files = self.new.files; write_faults = self.new.write_faults; appended = self.new.appended } }
+        ensures counted { self.new.appended ≡ appends_after result self.old.appended }
+    {
         match self.plan.failed_append(self.appended) {
             None => {
                 self.files.append(name, piece)?;

@@ -51,6 +51,7 @@ impl Notes for MemNotes {
         ensures ok { OnOk result (Some self.new.text ≡ said (Some self.old.text) piece.now) }
         ensures err { OnErr result ((k : ℕ) × (Some self.new.text ≡ said (Some self.old.text) (take k piece.now))) }
         ensures cause { HasAnyCause self.old.failures self.new.failures result }
+        ensures still { OnOk result (self.new.failures ≡ self.old.failures) }
         ensures never_fails { result ≢ Err NotesError.Failed }
     {
         if self.text.extend_from_slice(piece).is_err() {

@@ -1,7 +1,10 @@
 // A reader of a file in memory, with failures that a test planned.
-ghost use Rattle.std.specs.Prelude.{◌≡◌, ◌≤◌, [], Some};
+ghost use Rattle.std.specs.Prelude.{◌≡◌, ◌≢◌, ◌+◌, ◌≤◌, ◌↔◌, [], Some, Err, IsTrue, IfOk, OnOk, length, take, drop};
 ghost use Rattle.std.specs.Arc.{arc_value};
-ghost use Rattle.world.specs.Counts.{sum_of_counts};
+ghost use Rattle.world.specs.Counts.{HasCause, IsStill, sum_of_counts};
+ghost use Rattle.world.specs.Planned.{IsPlanned, fails_read, is_among, next_call};
+ghost use Rattle.world.specs.PlanView.{readers_plan_of};
+ghost use Rattle.world.specs.Reads.{reads_after, IsFresh};
 
 use crate::plan::ReaderPlan;
 use crate::{FolderError, Reader};
@@ -24,17 +27,27 @@ pub struct MemReader {
 
 impl Model for MemReader {
     ghost use Rattle.std.specs.Arc.{arc_value};
-    ghost use Rattle.world.specs.Told.{Opened};
+    ghost use Rattle.world.specs.Told.{Opened, opened_code};
+    ghost use Rattle.world.specs.PlanView.{readers_plan_of};
 
     ghost Value = { Opened };
 
-    ghost view = { λ reader. record { bytes = (arc_value reader.bytes).items; reads = reader.reads.items; faults = reader.faults } };
+    ghost coded = { opened_code };
+
+    ghost view = { λ reader. record {
+      bytes = (arc_value reader.bytes).items;
+      reads = reader.reads.items;
+      faults = reader.faults;
+      plan = readers_plan_of reader.plan;
+      read_calls = reader.read_calls;
+      again_calls = reader.again_calls;
+    } };
 }
 
 impl MemReader {
     // A reader of these bytes, which was asked for nothing yet.
     pub(crate) fn new(alloc: Global, bytes: Arc<Vec<u8>>, plan: ReaderPlan) -> MemReader
-        ensures { result ≡ record { bytes = (arc_value bytes).items; reads = []; faults = 0 } }
+        ensures { result ≡ record { bytes = (arc_value bytes).items; reads = []; faults = 0; plan = readers_plan_of plan; read_calls = 0; again_calls = 0 } }
     {
         MemReader {
             alloc,
@@ -80,19 +93,35 @@ impl Reader for MemReader {
 
     ghost faults = { λ reader. reader.faults };
 
-    fn len(&mut self) -> Result<u64, FolderError> {
+    fn len(&mut self) -> Result<u64, FolderError>
+        ensures len { IfOk result (λ len. len ≡ length self.old.bytes) }
+        ensures memory { result ≢ Err FolderError.NoMemory }
+        ensures planned { (result ≡ Err FolderError.Failed) ↔ IsTrue self.old.plan.len }
+        ensures cause { HasCause FolderError.Failed self.old.faults self.new.faults result }
+        ensures still { IsStill self.old.faults self.new.faults result }
+        ensures others { self.new ≡ record self.old { faults = self.new.faults } }
+    {
         if self.plan.len {
             return Err(self.fault());
         }
         Ok(self.bytes.len() as u64)
     }
 
-    fn read_at(&mut self, _alloc: Global, at: u64, into: &mut [u8]) -> Result<(), FolderError> {
+    fn read_at(&mut self, _alloc: Global, at: u64, into: &mut [u8]) -> Result<(), FolderError>
+        requires { at + length into.old ≤ length self.old.bytes }
+        ensures read { OnOk result (into.new ≡ take (length into.old) (drop at self.old.bytes)) }
+        ensures unplanned { result ≡ Err FolderError.Failed → IsTrue (fails_read self.old.plan self.old.read_calls at) }
+        ensures planned { IsTrue (fails_read self.old.plan self.old.read_calls at) → OnOk result ⊥ }
+        ensures reads { Some self.new.reads ≡ reads_after result (Some self.old.reads) at (length into.old) }
+        ensures cause { HasCause FolderError.Failed self.old.faults self.new.faults result }
+        ensures still { IsStill self.old.faults self.new.faults result }
+        ensures others { self.new ≡ record self.old { reads = self.new.reads; faults = self.new.faults; read_calls = next_call self.old.read_calls } }
+    {
+        let index = self.read_calls;
+        self.read_calls = index.saturating_add(1);
         if self.reads.push((at, into.len() as u64)).is_err() {
             return Err(FolderError::NoMemory);
         }
-        let index = self.read_calls;
-        self.read_calls = index.saturating_add(1);
         if self.plan.fails_to_read(index, at) {
             return Err(self.fault());
         }
@@ -101,14 +130,22 @@ impl Reader for MemReader {
         Ok(())
     }
 
-    fn again(&mut self, _alloc: Global) -> Result<Self, FolderError> {
-        let bytes = Arc::try_clone(&self.bytes)?;
-        let plan = self.plan.copy()?;
+    fn again(&mut self, _alloc: Global) -> Result<Self, FolderError>
+        ensures same { IfOk result (λ second. Some second.bytes ≡ Some self.old.bytes) }
+        ensures fresh { IfOk result (λ second. IsFresh second.faults (Some second.reads)) }
+        ensures plan { IfOk result (IsPlanned self.old.plan) }
+        ensures planned { (result ≡ Err FolderError.Failed) ↔ IsTrue (is_among self.old.again_calls self.old.plan.agains) }
+        ensures cause { HasCause FolderError.Failed self.old.faults self.new.faults result }
+        ensures still { IsStill self.old.faults self.new.faults result }
+        ensures others { self.new ≡ record self.old { faults = self.new.faults; again_calls = next_call self.old.again_calls } }
+    {
         let index = self.again_calls;
         self.again_calls = index.saturating_add(1);
-        if plan.agains.contains(&index) {
+        if self.plan.fails_again(index) {
             return Err(self.fault());
         }
+        let bytes = Arc::try_clone(&self.bytes)?;
+        let plan = self.plan.copy()?;
         Ok(MemReader::new(self.alloc, bytes, plan))
     }
 

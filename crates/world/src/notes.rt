@@ -18,5 +18,6 @@ pub trait Notes {
     fn say(&mut self, alloc: Global, piece: &[u8]) -> Result<(), NotesError>
         ensures ok { OnOk result (text self.new ≡ said (text self.old) piece.now) }
         ensures err { OnErr result ((k : ℕ) × (text self.new ≡ said (text self.old) (take k piece.now))) }
-        ensures cause { HasAnyCause (failures self.old) (failures self.new) result };
+        ensures cause { HasAnyCause (failures self.old) (failures self.new) result }
+        ensures still { OnOk result (failures self.new ≡ failures self.old) };
 }

@@ -1,5 +1,6 @@
 // The failures that a test plans for a folder in memory, and those of one of its readers.
-ghost use Rattle.std.specs.Prelude.{◌≡◌};
+ghost use Rattle.std.specs.Prelude.{◌≡◌, IfOk};
+ghost use Rattle.world.specs.Planned as spec;
 
 use std::alloc::{AllocError, Global};
 use sub_types::Word;
@@ -20,7 +21,7 @@ pub(crate) struct FailurePlan {
 
 impl FailurePlan {
     ghost use Rattle.world.specs.Told.{no_failures};
-    ghost use Rattle.world.specs.PlanView.{plan_of};
+    ghost use Rattle.world.specs.PlanView.{plan_of, readers_plan_of};
 
     pub(crate) fn new(alloc: Global) -> FailurePlan
         ensures { plan_of result ≡ no_failures }
@@ -36,12 +37,17 @@ impl FailurePlan {
         }
     }
 
-    pub(crate) fn fails_to_open(&self, name: &str) -> bool {
-        self.opens.iter().any(|word| word.text() == name)
+    /// Whether a reader of that name is to fail.
+    pub(crate) fn fails_to_open(&self, name: &str) -> bool
+        ensures { result ≡ spec.is_named name.now (plan_of self.now).opens }
+    {
+        is_named(&self.opens, name)
     }
 
     /// How many bytes of its piece the append with this index keeps, where it is to fail.
-    pub(crate) fn failed_append(&self, index: u32) -> Option<u32> {
+    pub(crate) fn failed_append(&self, index: u32) -> Option<u32>
+        ensures { result ≡ spec.failed_append (plan_of self.now) index }
+    {
         self.appends
             .iter()
             .find(|append| append.0 == index)
@@ -49,9 +55,11 @@ impl FailurePlan {
     }
 
     /// What is to fail in each reader of that name.
-    pub(crate) fn of_reader(&self, alloc: Global, name: &str) -> Result<ReaderPlan, AllocError> {
+    pub(crate) fn of_reader(&self, alloc: Global, name: &str) -> Result<ReaderPlan, AllocError>
+        ensures { IfOk result (λ plan. readers_plan_of plan ≡ spec.for_reader (plan_of self.now) name.now) }
+    {
         Ok(ReaderPlan {
-            len: self.lens.iter().any(|word| word.text() == name),
+            len: is_named(&self.lens, name),
             reads: indices_of(alloc, &self.reads, name)?,
             places: places_of(alloc, &self.places, name)?,
             agains: indices_of(alloc, &self.agains, name)?,
@@ -59,24 +67,33 @@ impl FailurePlan {
     }
 }
 
-fn indices_of(alloc: Global, calls: &[(Word, u32)], name: &str) -> Result<Vec<u32>, AllocError> {
-    let mut indices = Vec::new(alloc);
-    for (word, index) in calls {
-        if word.text() == name {
-            indices.push(*index)?;
-        }
-    }
-    Ok(indices)
+// Whether the name is among the words.
+fn is_named(words: &[Word], name: &str) -> bool
+    ensures { result ≡ spec.is_named name.now words.now }
+{
+    words.iter().any(|word| word.text() == name)
 }
 
-fn places_of(alloc: Global, calls: &[(Word, u64)], name: &str) -> Result<Vec<u64>, AllocError> {
-    let mut places = Vec::new(alloc);
-    for (word, place) in calls {
-        if word.text() == name {
-            places.push(*place)?;
-        }
-    }
-    Ok(places)
+// The indices of the calls under a name.
+fn indices_of(alloc: Global, calls: &[(Word, u32)], name: &str) -> Result<Vec<u32>, AllocError>
+    ensures { IfOk result (λ indices. indices.items ≡ spec.under name.now calls.now) }
+{
+    calls
+        .iter()
+        .filter(|call| call.0.text() == name)
+        .map(|call| call.1)
+        .collect(alloc)
+}
+
+// The places of the calls under a name.
+fn places_of(alloc: Global, calls: &[(Word, u64)], name: &str) -> Result<Vec<u64>, AllocError>
+    ensures { IfOk result (λ places. places.items ≡ spec.under name.now calls.now) }
+{
+    calls
+        .iter()
+        .filter(|call| call.0.text() == name)
+        .map(|call| call.1)
+        .collect(alloc)
 }
 
 /// What is to fail in a reader in memory.
@@ -89,11 +106,25 @@ pub(crate) struct ReaderPlan {
 }
 
 impl ReaderPlan {
-    pub(crate) fn fails_to_read(&self, index: u32, place: u64) -> bool {
+    ghost use Rattle.world.specs.PlanView.{readers_plan_of};
+
+    /// Whether the read with this index, at this place, is to fail.
+    pub(crate) fn fails_to_read(&self, index: u32, place: u64) -> bool
+        ensures { result ≡ spec.fails_read (readers_plan_of self.now) index place }
+    {
         self.reads.contains(&index) || self.places.contains(&place)
     }
 
-    pub(crate) fn copy(&self) -> Result<ReaderPlan, AllocError> {
+    /// Whether the second reader with this index is to fail.
+    pub(crate) fn fails_again(&self, index: u32) -> bool
+        ensures { result ≡ spec.is_among index (readers_plan_of self.now).agains }
+    {
+        self.agains.contains(&index)
+    }
+
+    pub(crate) fn copy(&self) -> Result<ReaderPlan, AllocError>
+        ensures { IfOk result (λ plan. readers_plan_of plan ≡ readers_plan_of self.now) }
+    {
         Ok(ReaderPlan {
             len: self.len,
             reads: self.reads.clone()?,

@@ -1,16 +1,15 @@
 // A reader of one file, which may be read at any place.
 ghost use Rattle.std.specs.Prelude.{◌≡◌, ◌≢◌, ◌+◌, ◌≤◌, ℕ, List, Option, length, take, drop, if◌then◌else◌, is_ok, IfOk, OnOk, IfSome};
 ghost use Rattle.std.specs.Option.{ForSome};
-ghost use Rattle.world.specs.Counts.{HasCause, sum_of_counts};
+ghost use Rattle.world.specs.Counts.{HasCause, IsStill, sum_of_counts};
 ghost use Rattle.world.specs.Reads.{Reads, reads_after, joined_reads, IsFresh};
 
 use crate::FolderError;
 use std::alloc::Global;
-use std::marker::Send;
 use sub_types::NoMemory;
 
 /// A reader of one file. It tells the file's bytes and its own reads, or neither.
-pub trait Reader: Send + Sized + Drop {
+pub trait Reader: Sized + Drop {
     /// The bytes of the file, where they are told.
     ghost bytes: { Self → Option (List ℕ) };
 
@@ -25,6 +24,7 @@ pub trait Reader: Send + Sized + Drop {
         ensures len { IfOk result (λ len. IfSome (bytes self.old) (λ told. len ≡ length told)) }
         ensures memory { result ≢ Err FolderError.NoMemory }
         ensures cause { HasCause FolderError.Failed (faults self.old) (faults self.new) result }
+        ensures still { IsStill (faults self.old) (faults self.new) result }
         ensures bytes { bytes self.new ≡ bytes self.old }
         ensures reads { reads self.new ≡ reads self.old };
 
@@ -34,6 +34,7 @@ pub trait Reader: Send + Sized + Drop {
         ensures read { OnOk result (IfSome (bytes self.old) (λ told. into.new ≡ take (length into.old) (drop at told))) }
         ensures reads { reads self.new ≡ reads_after result (reads self.old) at (length into.old) }
         ensures cause { HasCause FolderError.Failed (faults self.old) (faults self.new) result }
+        ensures still { IsStill (faults self.old) (faults self.new) result }
         ensures bytes { bytes self.new ≡ bytes self.old };
 
     /// A second reader of the same bytes.
@@ -41,6 +42,7 @@ pub trait Reader: Send + Sized + Drop {
         ensures same { IfOk result (λ second. bytes second ≡ bytes self.old) }
         ensures fresh { IfOk result (λ second. IsFresh (faults second) (reads second)) }
         ensures cause { HasCause FolderError.Failed (faults self.old) (faults self.new) result }
+        ensures still { IsStill (faults self.old) (faults self.new) result }
         ensures bytes { bytes self.new ≡ bytes self.old }
         ensures reads { reads self.new ≡ reads self.old };
 

@@ -5,6 +5,7 @@ ghost use Rattle.std.specs.FinMap as map;
 ghost use Rattle.world.specs.Told.{SureTold};
 
 use crate::file_table::FileTable;
+use crate::lent::one_more;
 use crate::{Folder, FolderError, Reader};
 use std::alloc::Global;
 use std::marker::Model;
@@ -69,6 +70,7 @@ pub struct SureFolder {
     alloc: Global,
     files: FileTable,
     reads: Vec<(u64, u64)>,
+    lent: u64,
 }
 
 impl Model for SureFolder {
@@ -78,18 +80,19 @@ impl Model for SureFolder {
 
     ghost coded = { sure_code };
 
-    ghost view = { λ folder. record { files = folder.files; reads = folder.reads.items } };
+    ghost view = { λ folder. record { files = folder.files; reads = folder.reads.items; lent = folder.lent } };
 }
 
 impl SureFolder {
     /// No files.
     pub fn new(alloc: Global) -> SureFolder
-        ensures { result ≡ record { files = map.empty; reads = [] } }
+        ensures { result ≡ record { files = map.empty; reads = []; lent = 0 } }
     {
         SureFolder {
             alloc,
             files: FileTable::new(alloc),
             reads: Vec::new(alloc),
+            lent: 0,
         }
     }
 
@@ -121,19 +124,24 @@ impl Folder for SureFolder {
 
     ghost write_faults = { λ _. 0 };
 
+    ghost lent = { λ folder. folder.lent };
+
     fn reader(&mut self, _alloc: Global, name: &str) -> Result<Option<SureReader>, FolderError> {
         let Some(bytes) = self.files.file(name) else {
             return Ok(None);
         };
         let bytes = bytes.to_vec(self.alloc)?;
-        Ok(Some(SureReader {
+        let reader = SureReader {
             alloc: self.alloc,
             bytes: Arc::new(self.alloc, bytes)?,
             reads: Vec::new(self.alloc),
-        }))
+        };
+        self.lent = one_more(self.lent)?;
+        Ok(Some(reader))
     }
 
     fn give_back(&mut self, _alloc: Global, reader: SureReader) -> Result<(), NoMemory> {
+        self.lent = self.lent.saturating_sub(1);
         self.reads.extend_from_slice(&reader.reads)?;
         Ok(())
     }
