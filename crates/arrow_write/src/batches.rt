@@ -54,6 +54,7 @@ pub(crate) fn append_batches<F: Folder>(
     ensures cause { HasCause WriteError.WriteFault (F.write_faults folder.old) (F.write_faults folder.new) result }
     ensures reads { F.reads folder.new ≡ F.reads folder.old }
     ensures read_faults { F.read_faults folder.new ≡ F.read_faults folder.old }
+    ensures lent { F.lent folder.new ≡ F.lent folder.old }
 {
     let rows = row_count(batches);
     let count = ((rows + BATCH_ROWS - 1) / BATCH_ROWS).max(1);
@@ -92,6 +93,7 @@ fn append_batch<F: Folder>(
     ensures cause { HasCause WriteError.WriteFault (F.write_faults folder.old) (F.write_faults folder.new) result }
     ensures reads { F.reads folder.new ≡ F.reads folder.old }
     ensures read_faults { F.read_faults folder.new ≡ F.read_faults folder.old }
+    ensures lent { F.lent folder.new ≡ F.lent folder.old }
 {
     let message = next_message(alloc, types, batches, &mut progress.cursor, count)?;
     progress.blocks.push(Block {

@@ -40,6 +40,7 @@ pub fn write_file<F: Folder>(
     ensures cause { HasCause WriteError.WriteFault (F.write_faults folder.old) (F.write_faults folder.new) result }
     ensures reads { F.reads folder.new ≡ F.reads folder.old }
     ensures read_faults { F.read_faults folder.new ≡ F.read_faults folder.old }
+    ensures lent { F.lent folder.new ≡ F.lent folder.old }
 {
     let head = head_bytes(alloc, names, types)?;
     create(alloc, folder, name)?;

@@ -15,6 +15,7 @@ pub(crate) fn create<F: Folder>(alloc: Global, folder: &mut F, name: &str) -> Re
     ensures cause { HasCause WriteError.WriteFault (F.write_faults folder.old) (F.write_faults folder.new) result }
     ensures reads { F.reads folder.new ≡ F.reads folder.old }
     ensures read_faults { F.read_faults folder.new ≡ F.read_faults folder.old }
+    ensures lent { F.lent folder.new ≡ F.lent folder.old }
 {
     match folder.create(alloc, name) {
         Ok(()) => Ok(()),
@@ -36,6 +37,7 @@ pub(crate) fn append<F: Folder>(
     ensures cause { HasCause WriteError.WriteFault (F.write_faults folder.old) (F.write_faults folder.new) result }
     ensures reads { F.reads folder.new ≡ F.reads folder.old }
     ensures read_faults { F.read_faults folder.new ≡ F.read_faults folder.old }
+    ensures lent { F.lent folder.new ≡ F.lent folder.old }
 {
     match folder.append(alloc, name, piece) {
         Ok(()) => Ok(()),

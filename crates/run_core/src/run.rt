@@ -1,5 +1,5 @@
 // The machine behind its invariant.
-ghost use Rattle.std.specs.Prelude.{◌≡◌, ◌↔◌, ◌≤◌, map, IsTrue, IfOk, OnOk, replicate};
+ghost use Rattle.std.specs.Prelude.{◌≡◌, ◌↔◌, ◌≤◌, map, IsTrue, IfOk, OnOk, OnErr, replicate};
 ghost use Rattle.std.specs.Bool.{OnTrue, OnFalse};
 ghost use Rattle.run_core.specs.Receipts.{lists_of, no_lists, IsBalanced};
 ghost use Rattle.run_core.specs.Machine.{start, IsAllowed, after, Keeps, IsOver};
@@ -66,10 +66,12 @@ impl Run {
     pub fn reserve(&mut self) -> Result<(), NoMemory>
         ensures machine { self.new.machine ≡ self.old.machine }
         ensures room { OnOk result (1 ≤ self.new.spare) }
+        ensures err { OnErr result (self.new ≡ self.old) }
     {
-        self.spare = 0;
-        self.state.reserve()?;
-        self.spare = 1;
+        if self.spare == 0 {
+            self.state.reserve()?;
+            self.spare = 1;
+        }
         Ok(())
     }
 

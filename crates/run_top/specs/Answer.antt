@@ -20,8 +20,7 @@ use Rattle.run_top.specs.declared.status.Report.{Report}
 use Rattle.run_top.specs.declared.status.PipeReceipt.{PipeReceipt}
 use Rattle.run_top.specs.Words.{Reading, reading_of}
 use Rattle.sub_types.specs.ResultSteps.{◌>>=◌}
-use Rattle.table_open.specs.Files.{TableFile}
-use Rattle.run_top.specs.Tables.{Table, all_blocks, count_blocks, table_stream, whole, named_table}
+use Rattle.run_top.specs.Tables.{Table, named_table}
 use Rattle.run_top.specs.TableRead.{IsTableRefusal}
 
 -- the most bytes of a plan
@@ -82,19 +81,6 @@ done_with reading names types table =
     if nat_le (length table.rows) MAX_ROWS
     then Ok (done_of reading names types table)
     else Err (status.DataFault (record { relation = 0; kind = kinds.TooManyRows }))
-
--- the file that is written of a table's files
-abbrev pub out_file : Reading → List (List ℕ) → List Ty → List TableFile → Result (List ℕ) Status
-out_file reading names types files = do
-  table ← whole (count_blocks files) (table_stream 0 types files)
-  done ← done_with reading names types table
-  Ok done.file
-
--- Files without a bad block that hold the same rows give the same file, however the rows are cut into files and record batches.
-abbrev pub SameRowsSameFile : Type 0
-SameRowsSameFile =
-    (reading : Reading) (names : List (List ℕ)) (types : List Ty) (a b : List TableFile) → (all_blocks 0 a).end ≡ None → (all_blocks 0 b).end ≡ None
-    → (all_blocks 0 a).rows ≡ (all_blocks 0 b).rows → out_file reading names types a ≡ out_file reading names types b
 
 -- the file of a plan of this form
 unfoldable pub done_in : Files → Reading → Form → Result Done Status

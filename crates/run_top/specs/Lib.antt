@@ -8,3 +8,4 @@ pub mod Tables
 pub mod TableSeen
 pub mod TableRead
 pub mod Answer
+pub mod SameRows

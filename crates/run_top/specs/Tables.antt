@@ -43,8 +43,12 @@ unrefused (Err (file, rule)) = Err (status.FileRefused file rule)
 abbrev pub whole : ℕ → Stream (List Value) → Result Table Status
 whole batches s = elim s.end [ None ↦ Ok (record { rows = s.rows; batches = batches }) | Some fault ↦ Err (status.DataFault fault) ]
 
+-- the table of its files, unless their rows end in a fault
+abbrev pub read_table : List Ty → List TableFile → Result Table Status
+read_table types files = whole (count_blocks files) (table_stream 0 types files)
+
 -- the named table, whose columns have these names and types; the relation that reads it is number 0
 unfoldable pub named_table : Files → List (List ℕ) → List ℕ → List (List ℕ) → List Ty → Result Table Status
 named_table files words name columns types = do
   opened ← unrefused (table_files files words name 0 columns types)
-  whole (count_blocks opened) (table_stream 0 types opened)
+  read_table types opened

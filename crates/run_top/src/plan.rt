@@ -31,6 +31,7 @@ pub(crate) fn read_plan<F: Folder>(
     ensures cause { HasCause FolderError.Failed (F.read_faults folder.old) (F.read_faults folder.new) result }
     ensures files { F.files folder.new ≡ F.files folder.old }
     ensures write_faults { F.write_faults folder.new ≡ F.write_faults folder.old }
+    ensures lent { F.lent folder.new ≡ F.lent folder.old }
 {
     let Some(mut reader) = folder.reader(alloc, name)? else {
         return Ok(Found::Missing);

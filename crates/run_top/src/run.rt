@@ -57,6 +57,9 @@ pub fn run_main<F: Folder, N: Notes, G: Gate, H: Threads + Wait + Sync>(
     ensures read_fault { result ≡ Status.ReadFault → Rose (F.read_faults folder.old) (F.read_faults folder.new) }
     ensures write_fault { result ≡ Status.WriteFault → Rose (F.write_faults folder.old) (F.write_faults folder.new) }
 
+    // All readers are given back.
+    ensures lent { F.lent folder.new ≡ F.lent folder.old }
+
     ensures notes { IsSaid (N.text notes.old) (N.text notes.new) (N.failures notes.old) (N.failures notes.new) (line_of result) }
 {
     let status = run(alloc, words, folder);
@@ -73,6 +76,7 @@ fn run<F: Folder>(alloc: Global, words: &[Word], folder: &mut F) -> Status
     ensures named { IsNamed result }
     ensures read_fault { result ≡ Status.ReadFault → Rose (F.read_faults folder.old) (F.read_faults folder.new) }
     ensures write_fault { result ≡ Status.WriteFault → Rose (F.write_faults folder.old) (F.write_faults folder.new) }
+    ensures lent { F.lent folder.new ≡ F.lent folder.old }
 {
     let Some(reading) = read_words(words) else {
         return Status::Usage;
@@ -142,6 +146,7 @@ fn write_answer<F: Folder>(
     ensures read_fault { result ≡ Status.ReadFault → Rose (F.read_faults folder.old) (F.read_faults folder.new) }
     ensures never_falls { F.read_faults folder.old ≤ F.read_faults folder.new }
     ensures write_fault { result ≡ Status.WriteFault → Rose (F.write_faults folder.old) (F.write_faults folder.new) }
+    ensures lent { F.lent folder.new ≡ F.lent folder.old }
 {
     match &form.source {
         TableSource::Named(name) => {
@@ -170,6 +175,7 @@ fn write_batches<F: Folder>(
     ensures named { IsWriteOutcome result }
     ensures read_faults { F.read_faults folder.new ≡ F.read_faults folder.old }
     ensures write_fault { result ≡ Status.WriteFault → Rose (F.write_faults folder.old) (F.write_faults folder.new) }
+    ensures lent { F.lent folder.new ≡ F.lent folder.old }
 {
     match row_count(batches) {
         None => too_many_rows(),
@@ -196,6 +202,7 @@ fn write_few<F: Folder>(
     ensures named { IsWriteOutcome result }
     ensures read_faults { F.read_faults folder.new ≡ F.read_faults folder.old }
     ensures write_fault { result ≡ Status.WriteFault → Rose (F.write_faults folder.old) (F.write_faults folder.new) }
+    ensures lent { F.lent folder.new ≡ F.lent folder.old }
 {
     let report = match report(alloc, rows, batches.len() as u64, reading.workers) {
         Ok(report) => report,

@@ -1,5 +1,5 @@
 // Named tables: the files of a name, read one after the other.
-ghost use Rattle.std.specs.Prelude.{◌≡◌, ◌≤◌, ◌⊎◌, ◌++◌, [], ◌∷◌, List, Some, Ok, Err, IsSome, IfOk, IfErr, length, map};
+ghost use Rattle.std.specs.Prelude.{◌≡◌, ◌-◌, ◌≤◌, ◌⊎◌, ◌++◌, [], ◌∷◌, List, Some, Ok, Err, IsSome, IfOk, IfErr, length, map};
 ghost use Rattle.std.specs.List.{All};
 ghost use Rattle.world.specs.Counts.{HasCause, Rose};
 ghost use Rattle.world.specs.Files.{Files};
@@ -38,6 +38,7 @@ pub(crate) fn named_batches<F: Folder>(
     ensures cause { HasCause Status.ReadFault (F.read_faults folder.old) (F.read_faults folder.new) result }
     ensures files { F.files folder.new ≡ F.files folder.old }
     ensures write_faults { F.write_faults folder.new ≡ F.write_faults folder.old }
+    ensures lent { F.lent folder.new ≡ F.lent folder.old }
 {
     let opened = match open_table(
         alloc,
@@ -106,6 +107,7 @@ fn read_files<F: Folder>(
     ensures failed { result ≡ TableEnd.Failed ReadError.ReadFault → Rose (F.read_faults folder.old) (F.read_faults folder.new) }
     ensures files { F.files folder.new ≡ F.files folder.old }
     ensures write_faults { F.write_faults folder.new ≡ F.write_faults folder.old }
+    ensures lent { F.lent folder.new ≡ F.lent folder.old - length opened.items }
 {
     let mut end = TableEnd::Whole;
     for one in opened {
@@ -133,6 +135,7 @@ fn read_next<F: Folder>(
     ensures failed { result ≡ TableEnd.Failed ReadError.ReadFault → (end ≡ TableEnd.Failed ReadError.ReadFault) ⊎ Rose (F.read_faults folder.old) (F.read_faults folder.new) }
     ensures files { F.files folder.new ≡ F.files folder.old }
     ensures write_faults { F.write_faults folder.new ≡ F.write_faults folder.old }
+    ensures lent { F.lent folder.new ≡ F.lent folder.old - 1 }
 {
     let mut one = one;
     let next = read_more(alloc, &mut one, read, batches, end);

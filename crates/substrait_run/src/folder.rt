@@ -3,7 +3,7 @@ ghost use Rattle.std.specs.Prelude.{None};
 
 use std::alloc::Global;
 use std::fs::{File, OpenOptions};
-use std::io::{ErrorKind, Write};
+use std::io::{self, ErrorKind, Write};
 use std::os::unix::fs::FileExt;
 use std::rt::Files;
 use sub_types::NoMemory;
@@ -66,6 +66,7 @@ pub(crate) struct StdFolder<'a, R> {
     files: &'a R,
     read_faults: u64,
     write_faults: u64,
+    lent: u64,
 }
 
 impl<'a, R: Files<File = File>> StdFolder<'a, R> {
@@ -74,6 +75,7 @@ impl<'a, R: Files<File = File>> StdFolder<'a, R> {
             files,
             read_faults: 0,
             write_faults: 0,
+            lent: 0,
         }
     }
 }
@@ -90,9 +92,15 @@ impl<R: Files<File = File>> Folder for StdFolder<'_, R> {
 
     ghost write_faults = { λ folder. folder.write_faults };
 
+    ghost lent = { λ folder. folder.lent };
+
     fn reader(&mut self, _alloc: Global, name: &str) -> Result<Option<StdReader>, FolderError> {
-        match File::open(self.files, name) {
-            Ok(file) => Ok(Some(StdReader { file, faults: 0 })),
+        match opened(self.files, name) {
+            Ok(file) => {
+                // So many readers as a count can't hold don't lie in any memory.
+                self.lent = self.lent.checked_add(1).ok_or(FolderError::NoMemory)?;
+                Ok(Some(StdReader { file, faults: 0 }))
+            }
             Err(error) if error.kind() == ErrorKind::NotFound => Ok(None),
             Err(_) => {
                 self.read_faults = self.read_faults.saturating_add(1);
@@ -102,6 +110,7 @@ impl<R: Files<File = File>> Folder for StdFolder<'_, R> {
     }
 
     fn give_back(&mut self, _alloc: Global, reader: StdReader) -> Result<(), NoMemory> {
+        self.lent = self.lent.saturating_sub(1);
         self.read_faults = self.read_faults.saturating_add(reader.faults);
         Ok(())
     }
@@ -123,6 +132,16 @@ impl<R: Files<File = File>> Folder for StdFolder<'_, R> {
             self.write_faults = self.write_faults.saturating_add(1);
             Err(FolderError::Failed)
         }
+    }
+}
+
+// The open file. Anything else than a plain file, as a directory, isn't opened.
+fn opened<R: Files<File = File>>(files: &R, name: &str) -> io::Result<File> {
+    let file = File::open(files, name)?;
+    if file.metadata()?.is_file() {
+        Ok(file)
+    } else {
+        Err(io::Error::from(ErrorKind::InvalidInput))
     }
 }
 

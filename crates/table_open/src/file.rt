@@ -1,5 +1,5 @@
 // One file of a table.
-ghost use Rattle.std.specs.Prelude.{◌≡◌, ◌≤◌, Some, Ok, IsSome, IfOk, IfErr, OnOk, length};
+ghost use Rattle.std.specs.Prelude.{◌≡◌, ◌+◌, ◌≤◌, Some, Ok, IsSome, IfOk, IfErr, OnOk, length, if◌then◌else◌, is_ok};
 ghost use Rattle.world.specs.Counts.{HasCause};
 ghost use Rattle.world.specs.Files.{Files};
 ghost use Rattle.arrow_meta.specs.Head.{head_of};
@@ -48,6 +48,7 @@ pub(crate) fn open_one<F: Folder>(
     ensures reads { OnOk result (F.reads folder.new ≡ F.reads folder.old) }
     ensures files { F.files folder.new ≡ F.files folder.old }
     ensures write_faults { F.write_faults folder.new ≡ F.write_faults folder.old }
+    ensures lent { F.lent folder.new ≡ (if is_ok result then F.lent folder.old + 1 else F.lent folder.old) }
 {
     let Some(mut reader) = folder.reader(alloc, name)? else {
         return Err(TableError::Refused {

@@ -1,5 +1,5 @@
 // The files of a table.
-ghost use Rattle.std.specs.Prelude.{◌≡◌, ◌≢◌, ◌≤◌, ◌↔◌, [], Some, Err, IsSome, IfOk, IfErr, OnOk, OnErr, length, map, fold, All};
+ghost use Rattle.std.specs.Prelude.{◌≡◌, ◌≢◌, ◌+◌, ◌-◌, ◌≤◌, ◌↔◌, [], Some, Err, IsSome, IfOk, IfErr, OnOk, OnErr, length, map, fold, All};
 ghost use Rattle.world.specs.Counts.{HasCause, sum_of_counts};
 ghost use Rattle.world.specs.Files.{Files};
 ghost use Rattle.world.specs.Reads.{joined_reads};
@@ -50,6 +50,8 @@ pub fn open_table<F: Folder>(
     ensures reads { OnOk result (F.reads folder.new ≡ F.reads folder.old) }
     ensures files { F.files folder.new ≡ F.files folder.old }
     ensures write_faults { F.write_faults folder.new ≡ F.write_faults folder.old }
+    ensures lent { IfOk result (λ opened. F.lent folder.new ≡ F.lent folder.old + length opened.items) }
+    ensures closed { OnErr result (F.lent folder.new ≡ F.lent folder.old) }
 {
     let table = TableColumns {
         relation,
@@ -94,6 +96,7 @@ fn open_all<F: Folder>(
     ensures reads { OnOk result (F.reads folder.new ≡ F.reads folder.old) }
     ensures files { F.files folder.new ≡ F.files folder.old }
     ensures write_faults { F.write_faults folder.new ≡ F.write_faults folder.old }
+    ensures lent { F.lent folder.new ≡ F.lent folder.old + length opened.new.items }
 {
     for (i, word) in words.iter().enumerate() {
         let Some(file) = bound_file(word.text(), name) else {
@@ -118,6 +121,7 @@ pub fn close_table<F: Folder>(
     ensures reads { OnOk result (F.reads folder.new ≡ fold joined_reads (F.reads folder.old) (map (λ one. F.R.reads one.reader) opened.items)) }
     ensures files { F.files folder.new ≡ F.files folder.old }
     ensures write_faults { F.write_faults folder.new ≡ F.write_faults folder.old }
+    ensures lent { F.lent folder.new ≡ F.lent folder.old - length opened.items }
 {
     let mut closed = Ok(());
     for one in opened {

@@ -24,6 +24,7 @@ loop-k-init g c =
       never_falls = omega arith;
       reads = refl;
       read_faults = refl;
+      lent = refl;
     }
 
 pub loop-k-preserved : goal.loop-k-preserved
@@ -54,6 +55,7 @@ loop-k-preserved g c =
       never_falls = omega (arith, so_far.never_falls, after.cause.never_falls);
       reads = after.reads ∙ so_far.reads;
       read_faults = after.read_faults ∙ so_far.read_faults;
+      lent = after.lent ∙ so_far.lent;
     }
 
 pub returns-in_err-append_batch-clause-err : goal.returns-in_err-append_batch-clause-err

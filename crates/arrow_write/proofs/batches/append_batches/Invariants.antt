@@ -20,4 +20,5 @@ invariant-loop-k g l =
       never_falls : g.F.Folder.write_faults l.fn.folder ≤ g.F.Folder.write_faults l.folder;
       reads : g.F.Folder.reads l.folder ≡ g.F.Folder.reads l.fn.folder;
       read_faults : g.F.Folder.read_faults l.folder ≡ g.F.Folder.read_faults l.fn.folder;
+      lent : g.F.Folder.lent l.folder ≡ g.F.Folder.lent l.fn.folder;
     }

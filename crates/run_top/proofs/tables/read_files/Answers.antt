@@ -1,6 +1,7 @@
-use Rattle.std.proofs.Common.{◌∙◌, sym, subst, refl, map, IsSome, All, arith, rules, inl, inr}
+use Rattle.std.proofs.Common.{◌∙◌, ◌-◌, sym, ap, subst, refl, List, length, map, IsSome, All, arith, rules, inl, inr}
 use Rattle.std.proofs.lemmas.List.Elements.{All-head, All-rest}
 use Rattle.std.specs.Vec.Iter.{into_iter_items}
+use Rattle.table_open.specs.declared.file.OpenFile.{OpenFile}
 use Rattle.table_open.specs.Ready.{file_seen, IsReady}
 use Rattle.run_top.specs.declared.tables.TableEnd.TheVariants.{Whole}
 use Rattle.run_top.proofs.TableLaws.{ReadSoFar, none_read, one_read, rose_before, rose_after}
@@ -22,6 +23,7 @@ loop-one-init g c =
       failed = λ e. absurd (cc);
       files = refl;
       write_faults = refl;
+      lent = ap (λ (left : List (OpenFile g.row.F-R.Denot)). g.F.Folder.lent c.args.folder.now - length left) (sym gives.0);
     }
 
 pub read_next-end-requires-clause-ready : goal.read_next-end-requires-clause-ready
@@ -54,4 +56,5 @@ loop-one-preserved g c =
       ];
       files = next.files ∙ before.files;
       write_faults = next.write_faults ∙ before.write_faults;
+      lent = omega (arith, before.lent, next.lent, ap length step);
     }

@@ -1,4 +1,4 @@
-use Rattle.std.proofs.Common.{◌≡◌, ◌≤◌, map, IsSome, All}
+use Rattle.std.proofs.Common.{◌≡◌, ◌-◌, ◌≤◌, length, map, IsSome, All}
 use Rattle.std.specs.Vec.Iter.{into_iter_items}
 use Rattle.world.specs.Counts.{Rose}
 use Rattle.batch.specs.BatchRows.{types_of}
@@ -22,4 +22,5 @@ invariant-loop-one g l = record {
   failed : l.end ≡ Failed ReadFault → Rose (g.F.Folder.read_faults l.initial.folder) (g.F.Folder.read_faults l.folder);
   files : g.F.Folder.files l.folder ≡ g.F.Folder.files l.initial.folder;
   write_faults : g.F.Folder.write_faults l.folder ≡ g.F.Folder.write_faults l.initial.folder;
+  lent : g.F.Folder.lent l.initial.folder - length l.fn.opened.items ≡ g.F.Folder.lent l.folder - length (into_iter_items l.one-iterator);
 }

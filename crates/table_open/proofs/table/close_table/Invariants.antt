@@ -1,4 +1,4 @@
-use Rattle.std.proofs.Common.{◌≡◌, ◌≤◌, map, fold, OnOk}
+use Rattle.std.proofs.Common.{◌≡◌, ◌-◌, ◌≤◌, length, map, fold, OnOk}
 use Rattle.std.specs.Vec.Iter.{into_iter_items}
 use Rattle.world.specs.Counts.{sum_of_counts}
 use Rattle.world.specs.Reads.{joined_reads}
@@ -14,4 +14,5 @@ invariant-loop-one g l = record {
       ≡ fold joined_reads (g.F.Folder.reads l.folder) (map (λ one. g.F.R.Reader.reads one.reader) (into_iter_items l.one-iterator)));
   files : g.F.Folder.files l.folder ≡ g.F.Folder.files l.initial.folder;
   write_faults : g.F.Folder.write_faults l.folder ≡ g.F.Folder.write_faults l.initial.folder;
+  lent : g.F.Folder.lent l.initial.folder - length l.fn.opened.items ≡ g.F.Folder.lent l.folder - length (into_iter_items l.one-iterator);
 }

@@ -1,5 +1,5 @@
-use Rattle.std.proofs.Common.{◌≡◌, ◌∙◌, ℕ, List, [], ◌∷◌, ◌++◌, map, Some, IsSome, refl, sym, ap, arith}
-use Rattle.std.proofs.lemmas.List.{append-nil}
+use Rattle.std.proofs.Common.{◌≡◌, ◌∙◌, ℕ, List, [], ◌∷◌, ◌++◌, length, map, Some, IsSome, refl, sym, ap, arith}
+use Rattle.std.proofs.lemmas.List.{append-nil, length_push}
 use Rattle.std.proofs.lemmas.Result.{err_from_is_err_and}
 use Rattle.std.proofs.lemmas.List.Elements.{All-nil, All-push}
 use Rattle.table_open.specs.declared.file.OpenFile.{OpenFile}
@@ -30,6 +30,7 @@ loop-i-init g c =
       reads = refl;
       files = refl;
       write_faults = refl;
+      lent = omega (arith, ap length empty);
     }
 
 pub loop-i-preserved : goal.loop-i-preserved
@@ -59,6 +60,7 @@ loop-i-preserved g c =
       reads = c.in_ok-one.ensures.reads ∙ c.loop-i.invariant.reads;
       files = c.in_ok-one.ensures.files ∙ c.loop-i.invariant.files;
       write_faults = c.in_ok-one.ensures.write_faults ∙ c.loop-i.invariant.write_faults;
+      lent = omega (arith, c.in_ok-one.ensures.lent, c.loop-i.invariant.lent, ap length pushed, length_push opened one);
     }
 
 pub returns-in_err-reserve-clause-bound : goal.returns-in_err-reserve-clause-bound

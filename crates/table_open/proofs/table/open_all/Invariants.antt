@@ -1,4 +1,4 @@
-use Rattle.std.proofs.Common.{◌≡◌, ◌≤◌, ◌++◌, map, Some, IsSome, All}
+use Rattle.std.proofs.Common.{◌≡◌, ◌+◌, ◌≤◌, ◌++◌, length, map, Some, IsSome, All}
 use Rattle.world.specs.Files.{Files}
 use Rattle.sub_types.specs.ResultSteps.{collect}
 use Rattle.table_open.specs.Words.{bindings_of}
@@ -21,4 +21,5 @@ invariant-loop-i g l = record {
   reads : g.F.Folder.reads l.folder ≡ g.F.Folder.reads l.initial.folder;
   files : g.F.Folder.files l.folder ≡ g.F.Folder.files l.initial.folder;
   write_faults : g.F.Folder.write_faults l.folder ≡ g.F.Folder.write_faults l.initial.folder;
+  lent : g.F.Folder.lent l.folder ≡ g.F.Folder.lent l.initial.folder + length l.opened.items;
 }
