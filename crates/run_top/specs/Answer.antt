@@ -97,7 +97,7 @@ answer words files = do
   form ← form_in plan
   done_in files reading form
 
--- the receipt of the one read relation, of so many batches and workers: its batches are claimed and finished once each
+-- the receipt of the one read relation, of so many batches and workers: each batch was claimed once, and was finished by one worker or is left
 pub record IsReceiptOf (batches workers : ℕ) (receipt : PipeReceipt) : Type 0 where
   pub relation : receipt.relation ≡ 0
   pub batches_is : receipt.batches ≡ batches

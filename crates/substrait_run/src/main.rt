@@ -7,7 +7,7 @@ mod words;
 
 use folder::StdFolder;
 use notes::StdNotes;
-use run_top::{Status, exit_number, run_main};
+use run_top::{Status, command_main, exit_number};
 use std::process::ExitCode;
 use world::OpenGate;
 
@@ -18,7 +18,7 @@ fn main(rt: HostRuntime) -> ExitCode {
     };
     let mut folder = StdFolder::new(&rt);
     let mut notes = StdNotes::new(&rt);
-    let status = run_main(&rt, rt.alloc(), &words, &mut folder, &mut notes, &OpenGate);
+    let status = command_main(&rt, rt.alloc(), &words, &mut folder, &mut notes, &OpenGate);
     ExitCode::from(exit_number(&status))
 }
 

@@ -1,8 +1,14 @@
-// A plan that is written, run and read back over real files.
+// Plans that are written, run and read back over real files, and folders in the place of files.
 use crate::folder::StdFolder;
 use crate::notes::StdNotes;
-use run_top::{exit_number, run_main};
+use run_top::{command_main, exit_number};
+use std::fs;
+use std::fs::File;
+use std::marker::Sync;
+use std::rt::Files;
+use std::sync::Wait;
 use std::test::Fail;
+use std::thread::Threads;
 use sub_types::Word;
 use world::{Folder, OpenGate, Reader};
 
@@ -14,6 +20,27 @@ const PLAN: [u8; 53] = [
     0xFF, 0x01, 0x12, 0x01, 0x78,
 ];
 
+// The column x of whole numbers of the table t.
+const NAMED_PLAN: [u8; 29] = [
+    0x1A, 0x1B, 0x12, 0x19, 0x0A, 0x14, 0x0A, 0x12, 0x12, 0x0B, 0x0A, 0x01, 0x78, 0x12, 0x06, 0x0A,
+    0x04, 0x3A, 0x02, 0x10, 0x02, 0x3A, 0x03, 0x0A, 0x01, 0x74, 0x12, 0x01, 0x78,
+];
+
+// The number that the program ends with after these words.
+fn number_after<H: Files<File = File> + Alloc<A = std::alloc::Global> + Print + Threads + Wait + Sync>(
+    rt: &H,
+    texts: &[&str],
+) -> Result<u8, Fail> {
+    let mut words = Vec::new(rt.alloc());
+    for text in texts {
+        words.push(Word::of(rt.alloc(), text)?)?;
+    }
+    let mut folder = StdFolder::new(rt);
+    let mut notes = StdNotes::new(rt);
+    let status = command_main(rt, rt.alloc(), &words, &mut folder, &mut notes, &OpenGate);
+    Ok(exit_number(&status))
+}
+
 #[test]
 #[tactic(auto, unfolding(world::specs::Files::Has))]
 fn plan_over_real_files(rt: HostRuntime) -> Result<(), Fail> {
@@ -21,13 +48,8 @@ fn plan_over_real_files(rt: HostRuntime) -> Result<(), Fail> {
     folder.create(rt.alloc(), "written.plan")?;
     folder.append(rt.alloc(), "written.plan", &PLAN[..20])?;
     folder.append(rt.alloc(), "written.plan", &PLAN[20..])?;
-    let mut words = Vec::new(rt.alloc());
-    for text in ["run", "written.plan", "written.arrow", "2"] {
-        words.push(Word::of(rt.alloc(), text)?)?;
-    }
-    let mut notes = StdNotes::new(&rt);
-    let status = run_main(&rt, rt.alloc(), &words, &mut folder, &mut notes, &OpenGate);
-    assert_eq!(rt; exit_number(&status), 0);
+    let words = ["run", "written.plan", "written.arrow", "2"];
+    assert_eq!(rt; number_after(&rt, &words)?, 0);
     let Some(mut reader) = folder.reader(rt.alloc(), "written.arrow")? else {
         return Err(Fail::new("no out file"));
     };
@@ -46,10 +68,26 @@ fn plan_over_real_files(rt: HostRuntime) -> Result<(), Fail> {
     Ok(())
 }
 
+// A folder is no plain file, and no file is made in a folder that isn't there.
 #[test]
-fn missing_file_is_no_fault(rt: HostRuntime) -> Result<(), Fail> {
+#[tactic(auto, unfolding(world::specs::Files::Has))]
+fn folders_for_files(rt: HostRuntime) -> Result<(), Fail> {
+    fs::create_dir(&rt, "folder")?;
     let mut folder = StdFolder::new(&rt);
-    let found = folder.reader(rt.alloc(), "not-there.plan")?;
-    assert!(rt; found.is_none());
+    for (name, plan) in [("rows.plan", PLAN.as_slice()), ("named.plan", NAMED_PLAN.as_slice())] {
+        folder.create(rt.alloc(), name)?;
+        folder.append(rt.alloc(), name, plan)?;
+    }
+    let cases: [(&str, &str, &str, u8); 5] = [
+        ("folder", "out.arrow", "t=f", 7),
+        ("named.plan", "out.arrow", "t=folder", 7),
+        ("named.plan", "out.arrow", "t=no.arrow", 5),
+        ("rows.plan", "folder", "t=f", 8),
+        ("rows.plan", "no_folder/out.arrow", "t=f", 8),
+    ];
+    for (plan, out, binding, number) in cases {
+        assert_eq!(rt; number_after(&rt, &["run", plan, out, "1", binding])?, number);
+    }
+    assert!(rt; folder.reader(rt.alloc(), "out.arrow")?.is_none());
     Ok(())
 }
