@@ -1,4 +1,6 @@
-//! The columns of a record batch, decoded from the buffers of its body (Arrow columnar format).
+//! The columns of a record batch, decoded from the buffers of its body (Arrow columnar format). It stands on
+//! `batch` for columns, and needs no reader: a record batch's metadata and body are its whole input. Its meaning
+//! stands in `arrow_meta/specs/`: `Values.antt` (what a column's buffers hold), `Batch.antt` and `Dictionary.antt`.
 #![tactic(auto)]
 
 mod buffer;

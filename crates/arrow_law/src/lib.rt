@@ -1,4 +1,5 @@
-//! The law of written Arrow files: the table that such a file holds is what was written.
+//! The law of written Arrow files: the table that such a file holds is what was written. It stands on `arrow_meta`,
+//! whose definitions of a written file and of a file's table it ties together. It has no definition of its own.
 #![tactic(auto)]
 
 ghost use Rattle.arrow_meta.specs.Table.{TableReadsBack};

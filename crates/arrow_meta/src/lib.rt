@@ -1,4 +1,7 @@
-//! What the footer and the messages of an Arrow file say, and which bytes are written for rows.
+//! What the footer and the messages of an Arrow file say, and which bytes are written for rows. It stands on
+//! `fb_bytes`. Its own `specs/` define what an Arrow file holds, for all crates that read and write them: `file_of`
+//! in `File.antt`, `head_of` in `Head.antt`, `rows_of` and `table_of` in `Table.antt`, dictionaries in
+//! `Dictionary.antt`, columns in `Values.antt`.
 #![tactic(auto)]
 
 mod block;

@@ -1,4 +1,7 @@
-//! Arrow files, read: the head of a file, and the body of one record batch at a time (Arrow columnar format).
+//! Arrow files, read: the head of a file, and the body of one record batch at a time (Arrow columnar format, "IPC
+//! File Format"). It stands on `arrow_meta` for messages, `arrow_decode` for columns and `world` for readers. Its
+//! meaning stands in `arrow_meta/specs/`: `Head.antt` and `Table.antt`; which reads are made is in its own
+//! `specs/`.
 #![tactic(auto)]
 
 mod block;

@@ -1,4 +1,5 @@
-//! Columns of any kind, and record batches: columns of one length, seen as a list of rows.
+//! Columns of any kind, and record batches: columns of one length. It stands on `col_fixed` and `col_text`. What
+//! rows a batch holds is `rows_of` in its own `specs/BatchRows.antt`.
 #![tactic(auto)]
 
 mod batch;

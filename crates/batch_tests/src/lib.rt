@@ -1,5 +1,12 @@
-//! Tests of record batches that are decoded.
+//! Tests of `batch`: columns and batches, with `col_fixed` and `col_text`. Expected values come from the formats or
+//! from other tools, and none from the engine.
 #![tactic(auto)]
 
 #[cfg(test)]
-mod tests;
+mod batches;
+#[cfg(test)]
+mod numbers;
+#[cfg(test)]
+mod texts;
+#[cfg(test)]
+mod truths;

@@ -1,5 +1,6 @@
-//! Columns of numbers of a fixed width and of truth values: values in one buffer, validity beside it,
-//! one bit a value. Contracts see a column, a view and a builder as its list of optional values.
+//! Columns of numbers of a fixed width and of truth values: values in one buffer, validity beside it, one bit a
+//! value. It stands on `sub_types` and `byteorder`. Contracts see a column, a view and a builder as its list of
+//! optional values; which kinds have which width is in its own `specs/`.
 #![tactic(auto)]
 
 mod bool_builder;

@@ -1,5 +1,5 @@
-//! Columns of texts and binaries: the bytes in one buffer, where each ends in another, validity beside
-//! them. Contracts see a column, a view and a builder as its list of optional byte lists.
+//! Columns of texts and binaries: the bytes in one buffer, where each ends in another, validity beside them. It
+//! stands on `sub_types`. Contracts see a column, a view and a builder as its list of optional byte lists.
 #![tactic(auto)]
 
 mod builder;

@@ -1,4 +1,6 @@
-//! FlatBuffers: tables read out of bytes, and objects laid out as bytes.
+//! FlatBuffers: tables read out of bytes, and objects laid out as bytes. It stands on `byteorder`. Its meaning
+//! stands in its own `specs/`: `Reading.antt` (where tables, vectors and fields stand) and `Layout.antt` (the bytes
+//! of an object).
 #![tactic(auto)]
 
 mod bad_buffer;

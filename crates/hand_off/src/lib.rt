@@ -1,5 +1,7 @@
-//! The bounded hand-off: workers offer items to a queue that they share and take items from it. An item
-//! that is offered is taken by one worker, or it is left, once; a full queue hands it back at once.
+//! The bounded hand-off: workers offer items to a queue that they share and take items from it. An item that is
+//! offered is taken by one worker, or it is left, once; a full queue hands it back at once. It stands on
+//! `scan_claims` and `crossbeam_queue`. Its meaning stands in its own `specs/`, over
+//! `run_core/specs/Receipts.antt`.
 #![tactic(auto)]
 
 mod hand;

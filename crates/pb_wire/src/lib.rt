@@ -1,5 +1,6 @@
-//! The wire format of Protocol Buffers: varints, the records of a message one after the other, and in `specs/` the
-//! payload rules of proto3 over them.
+//! The wire format of Protocol Buffers: varints, and the records of a message one after the other. It stands on
+//! `byteorder`. Its meaning stands in its own `specs/`: a varint, a record, the list of a message's records and
+//! where it stops, and the payload rules of proto3 over them (`Payloads.antt`).
 #![tactic(auto)]
 
 mod fields;

@@ -1,6 +1,6 @@
-//! The parts of a plan's untyped tree that hold no relation and no expression, with copies of them, and what all parts of a
-//! plan's trees are made of: a `Vec` and a `Box` that contracts see as what they hold, so that a tree of them is plain data and
-//! a copy of it equals it.
+//! The parts of a plan's untyped tree that hold no relation and no expression, with copies of them, and a `Vec` and
+//! a `Box` that contracts see as what they hold, so that a tree of them is plain data. It stands on `sub_types`. A
+//! tree is its own meaning, as data; `specs/` says that a copy equals what is copied.
 #![tactic(auto)]
 
 mod both;

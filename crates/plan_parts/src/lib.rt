@@ -1,5 +1,7 @@
-//! The parts of a plan's tree that hold no relation and no expression, read from the messages of a readable plan, what reads
-//! relations and expressions one level further down, and in `specs/` what the tree of a plan's bytes is.
+//! The parts of a plan's tree that hold no relation and no expression, read from the messages of a readable plan,
+//! and `Deeper`, by which readers go one level further down. It stands on `plan_scan` for messages and on
+//! `plan_raw` for the tree. Its own `specs/` define the tree of a plan's bytes (`plan_of` in `Reader.antt`), for
+//! this crate and for `plan_exprs`, `plan_rels` and `plan_decode`.
 #![tactic(auto)]
 
 mod argument;

@@ -1,4 +1,6 @@
-//! The untyped tree of a plan's messages, with copies of it.
+//! The untyped tree of a plan's messages: relations, expressions and plans as they are written, with copies of
+//! them. It stands on `plan_leaves`. A tree is its own meaning, as data; which tree a plan's bytes have is defined
+//! in `plan_parts/specs/Reader.antt`.
 #![tactic(auto)]
 
 mod aggregate;

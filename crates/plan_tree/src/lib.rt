@@ -1,5 +1,6 @@
-//! Plans as trees: the untyped tree of a plan's messages, and the typed tree of a checked plan. How the relations of either
-//! are numbered is in `specs/`.
+//! Plans as trees, both under one name: the untyped tree of a plan's messages, and the typed tree of a checked
+//! plan. It stands on `plan_raw` and `plan_typed`; nothing of today's way uses it. How the relations of either are
+//! numbered is defined in its own `specs/Numbering.antt`.
 #![tactic(auto)]
 
 pub use plan_leaves::{

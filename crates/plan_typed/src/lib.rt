@@ -1,4 +1,5 @@
-//! The typed tree of a checked plan, with copies of it.
+//! The typed tree of a checked plan, with copies of it. It stands on `plan_leaves`; nothing of today's way uses it.
+//! A tree is its own meaning, as data.
 #![tactic(auto)]
 
 mod expr;

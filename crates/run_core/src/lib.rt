@@ -1,5 +1,6 @@
-//! The run machine: what the steps of many workers may do to the numbers of one run, and what their
-//! receipts then show. The running program's claims, hand-off and workers take just these steps.
+//! The run machine: what the steps of many workers may do to the numbers of one run, and what their receipts then
+//! show. The running program's claims, hand-off and workers take just these steps. It stands on `sub_types`. Its
+//! meaning stands in its own `specs/`: `Machine.antt` (the steps) and `Receipts.antt` (a balanced receipt).
 #![tactic(auto)]
 
 mod event;

@@ -1,4 +1,6 @@
-//! The commands of the engine: words and files in, an answer, a line of notes and the out file.
+//! The commands of the engine: words and files in, an answer, a line of notes and the out file. It stands on all
+//! crates of the way: plans, tables, Arrow files and the world. What a command line denotes is `answer` in its own
+//! `specs/Answer.antt`; the lines are in `specs/Lines.antt`.
 #![tactic(auto)]
 
 mod command;

@@ -1,5 +1,7 @@
-//! The base types of the engine: kinds, types, values and faults, lists of bytes and of truth values,
-//! texts, and in `specs/` what it means that a row fits its types, and streams of rows.
+//! The base types of the engine: kinds, types, values and faults, lists of bytes and of truth values, and texts. It
+//! stands on std alone, and all other crates stand on it. Its meaning stands in its own `specs/`: what it means
+//! that a row fits its types, streams of rows and faults, packed bits, and steps that may give nothing or be
+//! refused.
 #![tactic(auto)]
 
 mod bits;

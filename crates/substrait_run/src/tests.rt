@@ -27,10 +27,9 @@ const NAMED_PLAN: [u8; 29] = [
 ];
 
 // The number that the program ends with after these words.
-fn number_after<H: Files<File = File> + Alloc<A = std::alloc::Global> + Print + Threads + Wait + Sync>(
-    rt: &H,
-    texts: &[&str],
-) -> Result<u8, Fail> {
+fn number_after<
+    H: Files<File = File> + Alloc<A = std::alloc::Global> + Print + Threads + Wait + Sync,
+>(rt: &H, texts: &[&str]) -> Result<u8, Fail> {
     let mut words = Vec::new(rt.alloc());
     for text in texts {
         words.push(Word::of(rt.alloc(), text)?)?;
@@ -74,7 +73,10 @@ fn plan_over_real_files(rt: HostRuntime) -> Result<(), Fail> {
 fn folders_for_files(rt: HostRuntime) -> Result<(), Fail> {
     fs::create_dir(&rt, "folder")?;
     let mut folder = StdFolder::new(&rt);
-    for (name, plan) in [("rows.plan", PLAN.as_slice()), ("named.plan", NAMED_PLAN.as_slice())] {
+    for (name, plan) in [
+        ("rows.plan", PLAN.as_slice()),
+        ("named.plan", NAMED_PLAN.as_slice()),
+    ] {
         folder.create(rt.alloc(), name)?;
         folder.append(rt.alloc(), name, plan)?;
     }
@@ -86,7 +88,10 @@ fn folders_for_files(rt: HostRuntime) -> Result<(), Fail> {
         ("rows.plan", "no_folder/out.arrow", "t=f", 8),
     ];
     for (plan, out, binding, number) in cases {
-        assert_eq!(rt; number_after(&rt, &["run", plan, out, "1", binding])?, number);
+        assert_eq!(rt;
+            number_after(&rt, &["run", plan, out, "1", binding])?,
+            number
+        );
     }
     assert!(rt; folder.reader(rt.alloc(), "out.arrow")?.is_none());
     Ok(())

@@ -1,5 +1,0 @@
-//! Tests of the reading of plans.
-#![tactic(auto)]
-
-#[cfg(test)]
-mod tests;

@@ -1,0 +1,4 @@
+// FlatBuffers against worked bytes.
+mod layout;
+mod objects;
+mod reading;

@@ -1,5 +1,0 @@
-//! Tests of Arrow files.
-#![tactic(auto)]
-
-#[cfg(test)]
-mod tests;

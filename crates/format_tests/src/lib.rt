@@ -1,5 +1,0 @@
-//! Tests of the formats: FlatBuffers.
-#![tactic(auto)]
-
-#[cfg(test)]
-mod tests;

@@ -1,5 +1,0 @@
-// FlatBuffers against worked bytes.
-mod layout;
-mod objects;
-mod reading;
-mod worked;

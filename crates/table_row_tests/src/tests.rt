@@ -1,7 +1,0 @@
-// Rows of worked files up to their first fault, and batches with faults.
-mod answers;
-mod batches;
-mod cells;
-mod checking;
-mod files;
-mod reading;

@@ -1,0 +1,6 @@
+//! Tests of `table_rows`: the rows of a table's files, over readers in memory. Expected values come from the
+//! formats or from other tools, and none from the engine.
+#![tactic(auto)]
+
+#[cfg(test)]
+mod tests;
