@@ -7,10 +7,10 @@ mod batch_methods;
 mod column;
 mod column_builder;
 mod column_data;
+mod column_data_methods;
 mod column_methods;
-mod column_ops;
 mod data_builder;
-mod data_builder_ops;
+mod data_builder_methods;
 mod join;
 mod storage;
 

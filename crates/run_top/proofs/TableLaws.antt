@@ -16,7 +16,7 @@ use Rattle.table_rows.specs.Read.{read_row}
 use Rattle.table_rows.specs.Blocks.{file_stream}
 use Rattle.world.specs.Counts.{Rose}
 use Rattle.run_top.specs.Tables.{table_stream, blocks_of}
-use Rattle.table_rows.specs.declared.error.ReadError.{ReadError}
+use Rattle.world.specs.declared.error.FolderError.{FolderError}
 use Rattle.run_top.specs.declared.tables.TableEnd.{TableEnd}
 use Rattle.run_top.specs.declared.tables.TableEnd.TheVariants.{Whole}
 use Rattle.run_top.specs.TableRead.{HasRows, HasRead, table_end}
@@ -62,7 +62,7 @@ ended_read types files batches None has = has
 ended_read types files batches (Some fault) has = has
 
 -- a file that was read behind others, where its bytes are told
-pub file_read : (relation : ℕ) (types : List Ty) (files : List TableFile) (number blocks : ℕ) (told : Option (List ℕ)) (wanted : List ℕ) (old new : List Batch) (result : Result (Option Fault) ReadError)
+pub file_read : (relation : ℕ) (types : List Ty) (files : List TableFile) (number blocks : ℕ) (told : Option (List ℕ)) (wanted : List ℕ) (old new : List Batch) (result : Result (Option Fault) FolderError)
     → relation ≡ 0 → IsSome told → HasRows types files old None
     → IfOk result (λ end. IfTold told (λ bytes. flat_map rows_of new ≡ flat_map rows_of old ++ (file_stream relation number types bytes blocks wanted).rows))
     → IfOk result (λ end. IfTold told (λ bytes. end ≡ (file_stream relation number types bytes blocks wanted).end))
@@ -77,7 +77,7 @@ file_read relation types files number blocks (Some bytes) wanted old new (Ok end
     (rows_more types files file old new end has (rows bytes refl ∙ ap (λ r. flat_map rows_of old ++ (stream r).rows) zero) (ends bytes refl ∙ ap (λ r. (stream r).end) zero) count)
 
 -- the same, with the numbers of blocks and batches and the places as they were handed in
-pub file_read_as : (relation : ℕ) (types : List Ty) (files : List TableFile) (number blocks len old_len new_len : ℕ) (told : Option (List ℕ)) (wanted lent : List ℕ) (old new : List Batch) (result : Result (Option Fault) ReadError)
+pub file_read_as : (relation : ℕ) (types : List Ty) (files : List TableFile) (number blocks len old_len new_len : ℕ) (told : Option (List ℕ)) (wanted lent : List ℕ) (old new : List Batch) (result : Result (Option Fault) FolderError)
     → len ≡ blocks → old_len ≡ length old → new_len ≡ length new → lent ≡ wanted → relation ≡ 0 → IsSome told → HasRows types files old None
     → IfOk result (λ end. IfTold told (λ bytes. flat_map rows_of new ≡ flat_map rows_of old ++ (file_stream relation number types bytes len lent).rows))
     → IfOk result (λ end. IfTold told (λ bytes. end ≡ (file_stream relation number types bytes len lent).end))

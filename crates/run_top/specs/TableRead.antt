@@ -10,7 +10,7 @@ use Rattle.batch.specs.declared.batch.Batch.{Batch}
 use Rattle.batch.specs.BatchRows.{rows_of}
 use Rattle.table_open.specs.Files.{TableFile}
 use Rattle.table_open.specs.Answers.{IsTableRule}
-use Rattle.table_rows.specs.declared.error.ReadError.{ReadError}
+use Rattle.world.specs.declared.error.FolderError.{FolderError}
 use Rattle.run_top.specs.declared.tables.TableEnd.{TableEnd}
 use Rattle.run_top.specs.declared.tables.TableEnd.TheVariants.{Whole, Faulty, Failed}
 use Rattle.run_top.specs.declared.status.Status.{Status}
@@ -31,7 +31,7 @@ pub record HasRows (types : List Ty) (files : List TableFile) (batches : List Ba
   pub count : end ≡ None → length batches ≡ count_blocks files
 
 -- how far a table was read whose last file was read so
-abbrev pub table_end : Result (Option Fault) ReadError → TableEnd
+abbrev pub table_end : Result (Option Fault) FolderError → TableEnd
 table_end (Ok None) = Whole
 table_end (Ok (Some fault)) = Faulty fault
 table_end (Err error) = Failed error

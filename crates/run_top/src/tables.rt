@@ -16,8 +16,8 @@ use plan_form::Form;
 use std::alloc::Global;
 use sub_types::{ByteList, Fault, NoMemory, Word};
 use table_open::{OpenFile, TableError, open_table};
-use table_rows::{ReadError, TableRead, read_file};
-use world::{Folder, Reader};
+use table_rows::{TableRead, read_file};
+use world::{Folder, FolderError, Reader};
 
 /// The batches of a named table, one for each block of its files in order, or why it isn't read. All readers
 /// are given back.
@@ -62,8 +62,8 @@ pub(crate) fn named_batches<F: Folder>(
     match read_files(alloc, folder, opened, &read, &mut batches) {
         TableEnd::Whole => Ok(batches),
         TableEnd::Faulty(fault) => Err(Status::DataFault { fault }),
-        TableEnd::Failed(ReadError::ReadFault) => Err(Status::ReadFault),
-        TableEnd::Failed(ReadError::NoMemory) => Err(Status::NoMemory),
+        TableEnd::Failed(FolderError::Failed) => Err(Status::ReadFault),
+        TableEnd::Failed(FolderError::NoMemory) => Err(Status::NoMemory),
     }
 }
 
@@ -74,11 +74,11 @@ enum TableEnd {
     Whole,
     // Up to this fault.
     Faulty(Fault),
-    Failed(ReadError),
+    Failed(FolderError),
 }
 
 // The end of a table whose last file was read so.
-fn end_of(end: Result<Option<Fault>, ReadError>) -> TableEnd
+fn end_of(end: Result<Option<Fault>, FolderError>) -> TableEnd
     ensures { result ≡ table_end end }
 {
     match end {
@@ -104,7 +104,7 @@ fn read_files<F: Folder>(
     ensures typed { All (λ batch. types_of batch ≡ read.now.types.now) batches.new.items }
     ensures faults { IsEnd result }
     ensures never_falls { F.read_faults folder.old ≤ F.read_faults folder.new }
-    ensures failed { result ≡ TableEnd.Failed ReadError.ReadFault → Rose (F.read_faults folder.old) (F.read_faults folder.new) }
+    ensures failed { result ≡ TableEnd.Failed FolderError.Failed → Rose (F.read_faults folder.old) (F.read_faults folder.new) }
     ensures files { F.files folder.new ≡ F.files folder.old }
     ensures write_faults { F.write_faults folder.new ≡ F.write_faults folder.old }
     ensures lent { F.lent folder.new ≡ F.lent folder.old - length opened.items }
@@ -132,7 +132,7 @@ fn read_next<F: Folder>(
     ensures typed { All (λ batch. types_of batch ≡ read.now.types.now) batches.old.items → All (λ batch. types_of batch ≡ read.now.types.now) batches.new.items }
     ensures faults { IsEnd end → IsEnd result }
     ensures never_falls { F.read_faults folder.old ≤ F.read_faults folder.new }
-    ensures failed { result ≡ TableEnd.Failed ReadError.ReadFault → (end ≡ TableEnd.Failed ReadError.ReadFault) ⊎ Rose (F.read_faults folder.old) (F.read_faults folder.new) }
+    ensures failed { result ≡ TableEnd.Failed FolderError.Failed → (end ≡ TableEnd.Failed FolderError.Failed) ⊎ Rose (F.read_faults folder.old) (F.read_faults folder.new) }
     ensures files { F.files folder.new ≡ F.files folder.old }
     ensures write_faults { F.write_faults folder.new ≡ F.write_faults folder.old }
     ensures lent { F.lent folder.new ≡ F.lent folder.old - 1 }
@@ -142,7 +142,7 @@ fn read_next<F: Folder>(
     let OpenFile { reader, .. } = one;
     match folder.give_back(alloc, reader) {
         Ok(()) => next,
-        Err(NoMemory) => TableEnd::Failed(ReadError::NoMemory),
+        Err(NoMemory) => TableEnd::Failed(FolderError::NoMemory),
     }
 }
 
@@ -161,7 +161,7 @@ fn read_more<R: Reader>(
     ensures typed { All (λ batch. types_of batch ≡ read.now.types.now) batches.old.items → All (λ batch. types_of batch ≡ read.now.types.now) batches.new.items }
     ensures faults { IsEnd end → IsEnd result }
     ensures never_falls { R.faults one.old.reader ≤ R.faults one.new.reader }
-    ensures failed { result ≡ TableEnd.Failed ReadError.ReadFault → (end ≡ TableEnd.Failed ReadError.ReadFault) ⊎ Rose (R.faults one.old.reader) (R.faults one.new.reader) }
+    ensures failed { result ≡ TableEnd.Failed FolderError.Failed → (end ≡ TableEnd.Failed FolderError.Failed) ⊎ Rose (R.faults one.old.reader) (R.faults one.new.reader) }
 {
     match end {
         TableEnd::Whole => end_of(read_file(

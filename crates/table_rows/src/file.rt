@@ -8,12 +8,12 @@ ghost use Rattle.arrow_read.specs.Seen.{head_seen};
 ghost use Rattle.batch.specs.BatchRows.{rows_of};
 ghost use Rattle.table_rows.specs.Blocks.{HaveKinds, AddsBatches, IsFileFault, file_stream};
 
-use crate::{ReadError, TableRead, read_piece};
+use crate::{TableRead, read_piece};
 use arrow_read::FileHead;
 use batch::{Batch, Piece};
 use std::alloc::Global;
 use sub_types::Fault;
-use world::Reader;
+use world::{FolderError, Reader};
 
 /// The rows of the wanted columns of a file, up to the first fault: a batch for each block behind `batches`, also
 /// where it has no rows, and the fault if there is one. `head` is that of the reader's file, and `file` its number
@@ -26,7 +26,7 @@ pub fn read_file<R: Reader>(
     wanted: &[u32],
     read: &TableRead,
     batches: &mut Vec<Batch>,
-) -> Result<Option<Fault>, ReadError>
+) -> Result<Option<Fault>, FolderError>
     requires wanted { HaveKinds head.now.schema.columns wanted.now read.now.types.now }
     requires head { IfTold (R.bytes reader.old) (λ bytes. head_of bytes ≡ Ok (head_seen head.now)) }
     ensures rows { IfOk result (λ end. IfTold (R.bytes reader.old) (λ bytes.
@@ -38,7 +38,7 @@ pub fn read_file<R: Reader>(
     ensures batches { AddsBatches read.now.types.now batches.old.items batches.new.items }
     ensures count { IfOk result (λ end. end ≡ None → vec_len batches.new ≡ vec_len batches.old + vec_len head.now.blocks) }
     ensures at_most { vec_len batches.new ≤ vec_len batches.old + vec_len head.now.blocks }
-    ensures cause { HasCause ReadError.ReadFault (R.faults reader.old) (R.faults reader.new) result }
+    ensures cause { HasCause FolderError.Failed (R.faults reader.old) (R.faults reader.new) result }
     ensures bytes { R.bytes reader.new ≡ R.bytes reader.old }
 {
     for block in 0..head.blocks.len() {

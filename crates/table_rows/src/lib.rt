@@ -6,13 +6,11 @@
 mod bits;
 mod check;
 mod columns;
-mod error;
 mod file;
 mod first;
 mod piece;
 mod retype;
 
 pub use check::check_batch;
-pub use error::ReadError;
 pub use file::read_file;
 pub use piece::{TableRead, read_piece};

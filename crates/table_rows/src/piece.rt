@@ -13,14 +13,13 @@ ghost use Rattle.batch.specs.BatchRows.{rows_of, types_of, stream_of_piece};
 ghost use Rattle.table_rows.specs.Read.{read_row};
 ghost use Rattle.table_rows.specs.Blocks.{HaveKinds, IsReadFault, block_stream};
 
-use crate::ReadError;
 use crate::check::check_batch;
 use arrow_decode::{RawError, decode};
 use arrow_read::{BlockError, FileHead, read_block};
 use batch::{Piece, join_batches};
 use std::alloc::Global;
 use sub_types::{Fault, FaultKind, NoMemory, Ty};
-use world::Reader;
+use world::{FolderError, Reader};
 
 /// What a table is read for: the number of the relation that reads it, and the types of its columns.
 #[derive(Clone, Copy, Debug)]
@@ -39,7 +38,7 @@ pub fn read_piece<R: Reader>(
     block: u32,
     wanted: &[u32],
     read: &TableRead,
-) -> Result<Piece, ReadError>
+) -> Result<Piece, FolderError>
     requires exists { block < vec_len head.now.blocks }
     requires wanted { HaveKinds head.now.schema.columns wanted.now read.now.types.now }
     requires head { IfTold (R.bytes reader.old) (λ bytes. head_of bytes ≡ Ok (head_seen head.now)) }
@@ -50,19 +49,19 @@ pub fn read_piece<R: Reader>(
     ensures fit { IfOk result (λ piece. All (Fits read.now.types.now) (rows_of piece.batch)) }
     ensures number { IfOk result (λ piece. piece.batch.number ≡ 0) }
     ensures faults { IfOk result (λ piece. IfSome piece.end (IsReadFault read.now.relation file block)) }
-    ensures cause { HasCause ReadError.ReadFault (R.faults reader.old) (R.faults reader.new) result }
+    ensures cause { HasCause FolderError.Failed (R.faults reader.old) (R.faults reader.new) result }
     ensures bytes { R.bytes reader.new ≡ R.bytes reader.old }
 {
     let raw = match read_block(alloc, reader, head, block, wanted) {
         Ok(raw) => raw,
         Err(BlockError::BadBatch) => return Ok(bad_piece(alloc, file, block, read)?),
-        Err(BlockError::ReadFault) => return Err(ReadError::ReadFault),
-        Err(BlockError::NoMemory) => return Err(ReadError::NoMemory),
+        Err(BlockError::ReadFault) => return Err(FolderError::Failed),
+        Err(BlockError::NoMemory) => return Err(FolderError::NoMemory),
     };
     match decode(alloc, &head.dictionaries, &raw) {
         Ok(batch) => Ok(check_batch(alloc, read.relation, read.types, batch)?),
         Err(RawError::BadBatch) => Ok(bad_piece(alloc, file, block, read)?),
-        Err(RawError::NoMemory) => Err(ReadError::NoMemory),
+        Err(RawError::NoMemory) => Err(FolderError::NoMemory),
     }
 }
 

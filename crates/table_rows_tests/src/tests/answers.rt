@@ -8,8 +8,8 @@ use arrow_read::{FileHead, open_file};
 use batch::Batch;
 use std::alloc::Global;
 use sub_types::{Fault, Kind, Ty};
-use table_rows::{ReadError, TableRead, read_file};
-use world::{Folder, MemFolder, MemReader};
+use table_rows::{TableRead, read_file};
+use world::{Folder, FolderError, MemFolder, MemReader};
 
 /// The number of the relation that reads.
 pub(super) const RELATION: u32 = 7;
@@ -21,7 +21,7 @@ pub(super) const FILE: u32 = 3;
 #[derive(Drop)]
 pub(super) enum Answer {
     Rows(Vec<Batch>, Option<Fault>),
-    Failed(ReadError),
+    Failed(FolderError),
     Other,
 }
 

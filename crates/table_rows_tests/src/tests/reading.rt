@@ -4,8 +4,8 @@ use super::cells::{Cell, is_answer};
 use std::alloc::Global;
 use std::test::Fail;
 use sub_types::{Fault, FaultKind, Kind, Ty};
-use table_rows::ReadError;
 use test_bytes::{DELTAS_FILE, THREE_ROWS_FILE};
+use world::FolderError;
 
 fn ty(kind: Kind, nullable: bool) -> Ty {
     Ty { kind, nullable }
@@ -21,7 +21,7 @@ fn fault(kind: FaultKind) -> Option<Fault> {
 // Whether the file isn't read where the read with this index fails.
 fn fails(alloc: Global, index: u32) -> bool {
     match answer_without(alloc, &THREE_ROWS_FILE, 0, ty(Kind::I64, false), index) {
-        Answer::Failed(ReadError::ReadFault) => true,
+        Answer::Failed(FolderError::Failed) => true,
         _ => false,
     }
 }

@@ -3,7 +3,7 @@ use Rattle.std.specs.Vec.Iter.{into_iter_items}
 use Rattle.world.specs.Counts.{Rose}
 use Rattle.batch.specs.BatchRows.{types_of}
 use Rattle.table_open.specs.Ready.{file_seen, IsReady}
-use Rattle.table_rows.specs.declared.error.ReadError.TheVariants.{ReadFault}
+use Rattle.world.specs.declared.error.FolderError.TheVariants.{Failed as FolderFailed}
 use Rattle.run_top.specs.declared.tables.TableEnd.TheVariants.{Failed}
 use Rattle.run_top.specs.TableRead.{IsEnd}
 use Rattle.run_top.proofs.TableLaws.{ReadSoFar}
@@ -19,7 +19,7 @@ invariant-loop-one g l = record {
   typed : All (λ batch. types_of batch ≡ l.read.types.now) l.batches.items;
   faults : IsEnd l.end;
   never_falls : g.F.Folder.read_faults l.initial.folder ≤ g.F.Folder.read_faults l.folder;
-  failed : l.end ≡ Failed ReadFault → Rose (g.F.Folder.read_faults l.initial.folder) (g.F.Folder.read_faults l.folder);
+  failed : l.end ≡ Failed FolderFailed → Rose (g.F.Folder.read_faults l.initial.folder) (g.F.Folder.read_faults l.folder);
   files : g.F.Folder.files l.folder ≡ g.F.Folder.files l.initial.folder;
   write_faults : g.F.Folder.write_faults l.folder ≡ g.F.Folder.write_faults l.initial.folder;
   lent : g.F.Folder.lent l.initial.folder - length l.fn.opened.items ≡ g.F.Folder.lent l.folder - length (into_iter_items l.one-iterator);
