@@ -12,7 +12,7 @@ use Rattle.arrow_meta.specs.Footer.{Footer, footer_in}
 use Rattle.arrow_meta.specs.Message.{DictionaryMeta, record_in, dictionary_in}
 use Rattle.arrow_meta.specs.Messages.{Place}
 use Rattle.arrow_meta.specs.Places.{is_arrow, footer_size, place_in, metadata_in, body_in}
-use Rattle.arrow_meta.specs.Dictionary.{DictionaryBlock, ColumnDictionary, dictionaries_from}
+use Rattle.arrow_meta.specs.Dictionary.{DictionaryBlock, ColumnDictionary, column_dictionaries}
 use Rattle.sub_types.specs.ResultSteps.{◌>>=◌}
 
 -- why a file isn't read: a footer that can't be read has its place
@@ -100,7 +100,7 @@ head_with bytes place footer = record {
   columns = footer.columns;
   blocks = footer.records;
   metas = map (λ block. result_ok (record_at bytes place block)) footer.records;
-  dictionaries = dictionaries_from (map (dictionary_block bytes place) footer.dictionaries) 0 footer.columns;
+  dictionaries = column_dictionaries (map (dictionary_block bytes place) footer.dictionaries) footer.columns;
 }
 
 -- the head of a file

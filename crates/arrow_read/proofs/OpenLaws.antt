@@ -5,7 +5,7 @@ use Rattle.std.specs.Result.{result_ok}
 use Rattle.std.proofs.lemmas.List.Folds.{list_any_at}
 use Rattle.arrow_meta.specs.declared.meta.Block.{Block}
 use Rattle.arrow_meta.specs.declared.meta.RecordMeta.{RecordMeta}
-use Rattle.arrow_meta.specs.Dictionary.{DictionaryBlock, ColumnDictionary, dictionaries_from}
+use Rattle.arrow_meta.specs.Dictionary.{DictionaryBlock, ColumnDictionary, column_dictionaries}
 use Rattle.arrow_meta.specs.Footer.{Footer}
 use Rattle.arrow_meta.specs.Head.{Refusal, NotArrow, BadFooter, Unsupported, Compressed, Head, footer_place, footer_at, refuse_if, is_compressed, record_at, dictionary_at, dictionary_block, has_compression, head_with, head_of}
 use Rattle.arrow_read.specs.declared.error.OpenError.{OpenError}
@@ -88,7 +88,7 @@ open_head told start footer place at h = rw (place, at, h) refl
 
 pub head_is : (told : List ℕ) (start : ℕ) (footer : Footer) (metas : List (Option RecordMeta)) (texts : List (Option DictionaryBlock)) (dictionaries : List ColumnDictionary)
     → footer_place told ≡ Ok start → footer_at told start ≡ Ok footer → metas_of told start footer.records ≡ Ok metas → texts_of told start footer.dictionaries ≡ Ok texts
-    → dictionaries ≡ dictionaries_from texts 0 footer.columns
+    → dictionaries ≡ column_dictionaries texts footer.columns
     → head_of told ≡ Ok (record { columns = footer.columns; blocks = footer.records; metas = metas; dictionaries = dictionaries })
 unfolding has_compression head_with
 head_is told start footer metas texts dictionaries place at records blocks found =
@@ -100,8 +100,8 @@ head_is told start footer metas texts dictionaries place at records blocks found
     let head : List (Option RecordMeta) → List ColumnDictionary → Result Head Refusal = λ ms ds.
     Ok (record { columns = footer.columns; blocks = footer.records; metas = ms; dictionaries = ds }) in
     open_head told start footer place at none
-    ∙ ap (λ ms. head ms (dictionaries_from (map (dictionary_block told start) footer.dictionaries) 0 footer.columns)) same_records
-    ∙ ap (λ ts. head metas (dictionaries_from ts 0 footer.columns)) same_texts
+    ∙ ap (λ ms. head ms (column_dictionaries (map (dictionary_block told start) footer.dictionaries) footer.columns)) same_records
+    ∙ ap (λ ts. head metas (column_dictionaries ts footer.columns)) same_texts
     ∙ ap (head metas) (sym found)
 
 -- blocks before a place are before a later one
