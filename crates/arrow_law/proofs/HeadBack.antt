@@ -1,5 +1,5 @@
 -- What is read of a footer's columns, all of which are wanted.
-use Rattle.std.proofs.Common.{◌≡◌, ◌∙◌, ℕ, suc, ◌+◌, List, [], ◌∷◌, ◌++◌, Bool, false, Option, Some, None, length, map, refl, sym, ap, arith, append_assoc, length-append, add-one}
+use Rattle.std.proofs.Common.{◌≡◌, ◌∙◌, ℕ, suc, ◌+◌, List, [], ◌∷◌, ◌++◌, Bool, false, Option, Some, None, length, map, refl, sym, ap, arith, append_assoc, length-append}
 use Rattle.std.specs.List.{range_with_len, filter_map, enumerate_from, list_any, slice_get, All}
 use Rattle.std.proofs.lemmas.List.Elements.{All-head, All-tail}
 use Rattle.sub_types.specs.declared.kind.Ty.{Ty}
@@ -57,7 +57,7 @@ wanted_back front (name ∷ names) (ty ∷ types) all i same long are =
     let here : slice_get all i ≡ Some field = ap (λ xs. slice_get xs i) are ∙ slice_get_at front field (columns_of names types) i long in
     let longer : length (front ++ field ∷ []) ≡ i + 1 = length-append front (field ∷ []) ∙ omega (arith, long) in
     let others = wanted_back (front ++ field ∷ []) names types all (i + 1) (omega arith) longer (are ∙ sym (append_assoc front (field ∷ []) (columns_of names types))) in
-    rw here (ap (λ rest. wanted ∷ rest) (others ∙ ap (λ n. wanted_from n types) (add-one i)))
+    rw here (ap (λ rest. wanted ∷ rest) others)
 
 -- no element passes
 pub list_any_none : {A : Type 0} (test : A → Bool) (xs : List A) → All (λ x. test x ≡ false) xs → list_any test xs ≡ false
