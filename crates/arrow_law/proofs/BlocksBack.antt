@@ -12,9 +12,10 @@ use Rattle.fb_bytes.proofs.TableLemmas.{round_up-least, length-filled}
 use Rattle.fb_bytes.proofs.LawProofs.{near_laws, root_law, table_law, tables_law, structs_law, text_law, item_law, absence_law}
 use Rattle.sub_types.specs.declared.kind.Ty.{Ty}
 use Rattle.sub_types.specs.declared.value.Value.{Value}
+use Rattle.sub_types.specs.declared.value.Value.TheVariants as values
 use Rattle.arrow_meta.specs.declared.meta.Block.{Block}
 use Rattle.arrow_meta.specs.declared.meta.RecordMeta.{RecordMeta}
-use Rattle.arrow_meta.specs.Buffers.{first_value, other_values, batch_buffers, batch_nodes, null_count, is_valid, body_of, buffer_places}
+use Rattle.arrow_meta.specs.Buffers.{column_at, batch_buffers, batch_nodes, null_count, is_valid, body_of, buffer_places}
 use Rattle.arrow_meta.specs.Messages.{Place, record_message}
 use Rattle.arrow_meta.specs.Meta.{unsigned_pair, record_of, place_of}
 use Rattle.arrow_meta.specs.File.{framed, batch_metadata, batch_body, batch_message, blocks_from}
@@ -22,6 +23,7 @@ use Rattle.arrow_meta.specs.Places.{place_in, metadata_in, body_in}
 use Rattle.arrow_meta.specs.Message.{record_in}
 use Rattle.arrow_meta.specs.Head.{record_at, block_body}
 use Rattle.arrow_meta.specs.Written.{IsPair, IsMeta, IsBlock}
+use Rattle.arrow_meta.proofs.ColumnLaws.{nodes_from}
 use Rattle.arrow_meta.proofs.MessageBack.{Laws, record_back}
 use Rattle.arrow_law.proofs.BodyBack.{signed_pair}
 use Rattle.arrow_law.proofs.BatchBack.{meta_of}
@@ -63,14 +65,14 @@ nulls_few : (column : List Value) → null_count column ≤ length column
 nulls_few column =
     let least = sum_by-le (λ value. if is_valid value then 0 else 1) 1 column (λ k d below. at_most_one (is_valid (get_or column k d))) in omega (arith, least)
 
-nodes_fit : (types : List Ty) (rows : List (List Value)) → length rows < 2 ^ 63 → All IsPair (map signed_pair (batch_nodes types rows))
-nodes_fit [] rows low = All-nil IsPair
-nodes_fit (ty ∷ types) rows low =
-    let nulls = nulls_few (map first_value rows) in
-    let long = length-map rows first_value in
-    All-cons IsPair (pos (length rows), pos (null_count (map first_value rows))) (map signed_pair (batch_nodes types (map other_values rows)))
-    (pair_fits (length rows) (null_count (map first_value rows)) low (omega (arith, low, nulls, long)))
-    (nodes_fit types (map other_values rows) (omega (arith, low, length-map rows other_values)))
+nodes_fit : (i : ℕ) (types : List Ty) (rows : List (List Value)) → length rows < 2 ^ 63 → All IsPair (map signed_pair (nodes_from i types rows))
+nodes_fit i [] rows low = All-nil IsPair
+nodes_fit i (ty ∷ types) rows low =
+    let nulls = nulls_few (column_at i rows) in
+    let long = length-map rows (λ row. get_or row i values.Null) in
+    All-cons IsPair (pos (length rows), pos (null_count (column_at i rows))) (map signed_pair (nodes_from (i + 1) types rows))
+    (pair_fits (length rows) (null_count (column_at i rows)) low (omega (arith, low, nulls, long)))
+    (nodes_fit (i + 1) types rows low)
 
 places_fit : (place : ℕ) (buffers : List (List ℕ)) → place + length (body_of buffers) < 2 ^ 63 → All IsPair (map signed_pair (buffer_places place buffers))
 places_fit place [] low = All-nil IsPair
@@ -86,7 +88,7 @@ places_fit place (buffer ∷ buffers) low =
 meta_fits : (types : List Ty) (rows : List (List Value)) → length rows ≤ 1024 → length (batch_body types rows) < 2 ^ 63 → IsMeta (meta_of types rows)
 meta_fits types rows few short = record {
   length = fits64 (length rows) (omega (arith, few));
-  nodes = nodes_fit types rows (omega (arith, few));
+  nodes = nodes_fit 0 types rows (omega (arith, few));
   buffers = places_fit 0 (batch_buffers types rows) (omega (arith, short));
 }
 

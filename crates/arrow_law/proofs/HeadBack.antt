@@ -1,13 +1,13 @@
 -- What is read of a footer's columns, all of which are wanted.
-use Rattle.std.proofs.Common.{◌≡◌, ◌∙◌, ℕ, suc, ◌+◌, List, [], ◌∷◌, ◌++◌, Bool, false, Option, Some, None, length, map, refl, sym, ap, arith, append_assoc, length-append, add-one}
-use Rattle.std.specs.List.{range_with_len, filter_map, list_any, slice_get, All}
+use Rattle.std.proofs.Common.{◌≡◌, ◌∙◌, ℕ, suc, ◌+◌, List, [], ◌∷◌, ◌++◌, Bool, false, Option, Some, None, length, map, refl, sym, ap, arith, append_assoc, length-append}
+use Rattle.std.specs.List.{range_with_len, filter_map, enumerate_from, list_any, slice_get, All}
 use Rattle.std.proofs.lemmas.List.Elements.{All-head, All-tail}
 use Rattle.sub_types.specs.declared.kind.Ty.{Ty}
 use Rattle.arrow_meta.specs.declared.field.FieldMeta.{FieldMeta}
 use Rattle.arrow_meta.specs.declared.field.Layout.TheVariants.{Plain}
 use Rattle.sub_types.specs.OptionSteps.{all_of}
 use Rattle.arrow_meta.specs.Batch.{Wanted, known_buffers}
-use Rattle.arrow_meta.specs.Dictionary.{DictionaryBlock, dictionaries_from}
+use Rattle.arrow_meta.specs.Dictionary.{DictionaryBlock, column_dictionary}
 use Rattle.arrow_meta.specs.Written.{column_of, columns_of}
 use Rattle.arrow_meta.specs.Table.{shapes_of, wanted_as, type_of}
 use Rattle.arrow_law.proofs.Options.{slice_get_at}
@@ -38,10 +38,11 @@ shapes_back (name ∷ names) [] same = absurd (omega arith)
 shapes_back (name ∷ names) (ty ∷ types) same = ap (λ rest. known_buffers ty.kind Plain ∷ rest) (shapes_back names types (omega arith))
 
 -- no column has indices
-pub no_dictionaries : (blocks : List (Option DictionaryBlock)) (i : ℕ) (names : List (List ℕ)) (types : List Ty) → dictionaries_from blocks i (columns_of names types) ≡ []
+pub no_dictionaries : (blocks : List (Option DictionaryBlock)) (i : ℕ) (names : List (List ℕ)) (types : List Ty)
+    → filter_map (column_dictionary blocks) (enumerate_from i (columns_of names types)) ≡ []
 no_dictionaries blocks i [] types = refl
 no_dictionaries blocks i (name ∷ names) [] = refl
-no_dictionaries blocks i (name ∷ names) (ty ∷ types) = no_dictionaries blocks (suc i) names types
+no_dictionaries blocks i (name ∷ names) (ty ∷ types) = no_dictionaries blocks (i + 1) names types
 
 -- all columns are wanted
 pub wanted_back : (front : List FieldMeta) (names : List (List ℕ)) (types : List Ty) (all : List FieldMeta) (i : ℕ) → length names ≡ length types
@@ -56,7 +57,7 @@ wanted_back front (name ∷ names) (ty ∷ types) all i same long are =
     let here : slice_get all i ≡ Some field = ap (λ xs. slice_get xs i) are ∙ slice_get_at front field (columns_of names types) i long in
     let longer : length (front ++ field ∷ []) ≡ i + 1 = length-append front (field ∷ []) ∙ omega (arith, long) in
     let others = wanted_back (front ++ field ∷ []) names types all (i + 1) (omega arith) longer (are ∙ sym (append_assoc front (field ∷ []) (columns_of names types))) in
-    rw here (ap (λ rest. wanted ∷ rest) (others ∙ ap (λ n. wanted_from n types) (add-one i)))
+    rw here (ap (λ rest. wanted ∷ rest) others)
 
 -- no element passes
 pub list_any_none : {A : Type 0} (test : A → Bool) (xs : List A) → All (λ x. test x ≡ false) xs → list_any test xs ≡ false

@@ -1,9 +1,9 @@
 -- The columns of rows, and rows of columns.
-use Rattle.std.proofs.Common.{◌≡◌, ◌∙◌, ℕ, zero, suc, ◌+◌, ◌*◌, ◌/◌, ◌<◌, ◌≤◌, max, List, [], ◌∷◌, ◌++◌, length, get_or, map, take, drop, refl, sym, ap, arith}
-use Rattle.std.specs.List.{range_with_len, flat_map, All}
-use Rattle.std.proofs.lemmas.List.{length-map, get_or-map, take_all, drop-drop, length-take}
+use Rattle.std.proofs.Common.{◌≡◌, ◌∙◌, ℕ, zero, suc, ◌+◌, ◌*◌, ◌/◌, ◌<◌, ◌≤◌, max, List, [], ◌∷◌, ◌++◌, length, get_or, map, take, drop, refl, sym, ap, subst, arith, append_assoc, length-append, zero-add}
+use Rattle.std.specs.List.{range_with_len, enumerate_from, flat_map, All}
+use Rattle.std.proofs.lemmas.List.{get_or-map, get_or_at, take_all, drop-drop, length-take}
 use Rattle.std.proofs.lemmas.List.Elements.{All-weaker, All-map, All-take, All-drop}
-use Rattle.std.proofs.lemmas.List.FromFn.{fill_by_all, length-map-range_with_len}
+use Rattle.std.proofs.lemmas.List.FromFn.{fill_by_all, length-map-range_with_len, length-enumerate_from, get_or-enumerate_from}
 use Rattle.std.proofs.Math.Seq.{take-add}
 use Rattle.std.proofs.Math.Nat.{mul-suc, mul-zero, mul-add}
 use Rattle.sub_types.specs.Rows.{across, transpose}
@@ -11,50 +11,57 @@ use Rattle.sub_types.specs.Value.{Fits, FitsTy}
 use Rattle.sub_types.specs.declared.kind.Ty.{Ty}
 use Rattle.sub_types.specs.declared.value.Value.{Value}
 use Rattle.sub_types.specs.declared.value.Value.TheVariants as values
-use Rattle.arrow_meta.specs.Buffers.{first_value, other_values}
+use Rattle.arrow_meta.specs.Buffers.{column_at}
 use Rattle.arrow_meta.specs.File.{batches}
 
--- the columns of rows of so many types
-abbrev pub columns_of_rows : List Ty → List (List Value) → List (List Value)
-columns_of_rows [] rows = []
-columns_of_rows (ty ∷ types) rows = map first_value rows ∷ columns_of_rows types (map other_values rows)
+-- the columns of rows, from the one at i on
+abbrev pub columns_from : ℕ → List Ty → List (List Value) → List (List Value)
+columns_from i types rows = map (λ column. column_at column.0 rows) (enumerate_from i types)
 
--- the first values fit the first type, and the others the other types
-first_fits : (ty : Ty) (types : List Ty) (row : List Value) → Fits (ty ∷ types) row → FitsTy ty (first_value row)
-first_fits ty types [] fits = absurd fits
-first_fits ty types (value ∷ row) fits = fits.0
+-- the values of a column fit its type
+abbrev pub ColumnFits : List (List Value) → ℕ × Ty → Type 0
+ColumnFits rows column = All (FitsTy column.1) (column_at column.0 rows)
 
-others_fit : (ty : Ty) (types : List Ty) (row : List Value) → Fits (ty ∷ types) row → Fits types (other_values row)
-others_fit ty types [] fits = absurd fits
-others_fit ty types (value ∷ row) fits = fits.1
+value_fits : (types : List Ty) (row : List Value) (k : ℕ) (d : Ty) → Fits types row → k < length types → FitsTy (get_or types k d) (get_or row k values.Null)
+value_fits [] row k d fits below = absurd (omega arith)
+value_fits (ty ∷ types) [] k d fits below = absurd fits
+value_fits (ty ∷ types) (value ∷ row) zero d fits below = fits.0
+value_fits (ty ∷ types) (value ∷ row) (suc k) d fits below = value_fits types row k d fits.1 (omega arith)
 
-pub first_column_fits : (ty : Ty) (types : List Ty) (rows : List (List Value)) → All (Fits (ty ∷ types)) rows → All (FitsTy ty) (map first_value rows)
-first_column_fits ty types rows fits = All-map (FitsTy ty) first_value rows (All-weaker (Fits (ty ∷ types)) (λ row. FitsTy ty (first_value row)) (first_fits ty types) rows fits)
-
-pub other_columns_fit : (ty : Ty) (types : List Ty) (rows : List (List Value)) → All (Fits (ty ∷ types)) rows → All (Fits types) (map other_values rows)
-other_columns_fit ty types rows fits = All-map (Fits types) other_values rows (All-weaker (Fits (ty ∷ types)) (λ row. Fits types (other_values row)) (others_fit ty types) rows fits)
+pub columns_fit : (types : List Ty) (rows : List (List Value)) → All (Fits types) rows → All (ColumnFits rows) (enumerate_from 0 types)
+columns_fit types rows fits = λ k d below.
+    let within : k < length types = omega (arith, below, length-enumerate_from 0 types) in
+    let ty : Ty = get_or types k d.1 in
+    let there : get_or (enumerate_from 0 types) k d ≡ (k, ty) = get_or-enumerate_from 0 types k d within ∙ ap {B = ℕ × Ty} (λ n. (n, ty)) (zero-add k) in
+    let value : List Value → Value = λ row. get_or row k values.Null in
+    subst (ColumnFits rows) (sym there) (All-map (FitsTy ty) value rows (All-weaker (Fits types) (λ row. FitsTy ty (value row)) (λ row fit. value_fits types row k d.1 fit within) rows fits))
 
 -- the row at a place
-row_parts : (ty : Ty) (types : List Ty) (row : List Value) → Fits (ty ∷ types) row → first_value row ∷ other_values row ≡ row
-row_parts ty types [] fits = absurd fits
-row_parts ty types (value ∷ row) fits = refl
+across_columns : (rows : List (List Value)) (k : ℕ) (columns : List (ℕ × Ty)) → k < length rows
+    → across values.Null (map (λ column. column_at column.0 rows) columns) k ≡ map (λ column. get_or (get_or rows k []) column.0 values.Null) columns
+across_columns rows k [] below = refl
+across_columns rows k (column ∷ columns) below =
+    ap (λ value. value ∷ across values.Null (map (λ other. column_at other.0 rows) columns) k) (get_or-map (λ row. get_or row column.0 values.Null) rows k [] values.Null below)
+    ∙ ap (λ rest. get_or (get_or rows k []) column.0 values.Null ∷ rest) (across_columns rows k columns below)
 
-no_values : (row : List Value) → Fits [] row → [] ≡ row
-no_values [] fits = refl
-no_values (value ∷ row) fits = absurd fits
+row_back : (types : List Ty) (front row : List Value) (i : ℕ) → length front ≡ i → Fits types row → map (λ column. get_or (front ++ row) column.0 values.Null) (enumerate_from i types) ≡ row
+row_back [] front [] i long fits = refl
+row_back [] front (value ∷ row) i long fits = absurd fits
+row_back (ty ∷ types) front [] i long fits = absurd fits
+row_back (ty ∷ types) front (value ∷ row) i long fits =
+    let picked : List Value → List Value = λ all. map (λ column. get_or all column.0 values.Null) (enumerate_from (i + 1) types) in
+    let longer : length (front ++ value ∷ []) ≡ i + 1 = length-append front (value ∷ []) ∙ omega (arith, long) in
+    ap (λ first. first ∷ picked (front ++ value ∷ row)) (get_or_at front value row values.Null i long)
+    ∙ ap (λ all. value ∷ picked all) (sym (append_assoc front (value ∷ []) row))
+    ∙ ap (λ rest. value ∷ rest) (row_back types (front ++ value ∷ []) row (i + 1) longer fits.1)
 
-across_row : (types : List Ty) (rows : List (List Value)) (k : ℕ) → k < length rows → All (Fits types) rows → across values.Null (columns_of_rows types rows) k ≡ get_or rows k []
-across_row [] rows k below fits = no_values (get_or rows k []) (fits k [] below)
-across_row (ty ∷ types) rows k below fits =
-    let within : k < length (map other_values rows) = omega (arith, below, length-map rows other_values) in
-    let first = get_or-map first_value rows k [] values.Null below in
-    let others = across_row types (map other_values rows) k within (other_columns_fit ty types rows fits) ∙ get_or-map other_values rows k [] [] below in
-    rw (first, others) (row_parts ty types (get_or rows k []) (fits k [] below))
+across_row : (types : List Ty) (rows : List (List Value)) (k : ℕ) → k < length rows → All (Fits types) rows → across values.Null (columns_from 0 types rows) k ≡ get_or rows k []
+across_row types rows k below fits = across_columns rows k (enumerate_from 0 types) below ∙ row_back types [] (get_or rows k []) 0 refl (fits k [] below)
 
 -- the columns as rows
-pub transpose_back : (types : List Ty) (rows : List (List Value)) → All (Fits types) rows → transpose values.Null (length rows) (columns_of_rows types rows) ≡ rows
+pub transpose_back : (types : List Ty) (rows : List (List Value)) → All (Fits types) rows → transpose values.Null (length rows) (columns_from 0 types rows) ≡ rows
 transpose_back types rows fits =
-    sym (fill_by_all (across values.Null (columns_of_rows types rows)) rows (length rows) [] refl (λ k below. sym (across_row types rows k below fits)))
+    sym (fill_by_all (across values.Null (columns_from 0 types rows)) rows (length rows) [] refl (λ k below. sym (across_row types rows k below fits)))
 
 -- parts of a list, one after the other
 parts_back : {A : Type 0} (size : ℕ) (xs : List A) (start n : ℕ)

@@ -18,8 +18,9 @@ use Rattle.arrow_meta.specs.Messages.{Place, VERSION, type_tag, type_laid, field
 use Rattle.arrow_meta.specs.File.{batch_metadata}
 use Rattle.arrow_meta.specs.Batch.{known_buffers}
 use Rattle.arrow_meta.proofs.Lengths.{message_length, pairs_length}
+use Rattle.arrow_meta.proofs.ColumnLaws.{length-nodes_from}
 use Rattle.arrow_law.proofs.BodyBack.{length-buffer_places}
-use Rattle.arrow_law.proofs.BatchBack.{buffer_counts, length-batch_buffers, length-batch_nodes}
+use Rattle.arrow_law.proofs.BatchBack.{buffer_counts, length-buffers_from}
 
 -- what a table leads to is in its bytes
 behind_long : (parts : List Part) → length (behind parts) ≤ length (table_laid parts).bytes
@@ -149,9 +150,9 @@ metadata_short names types blocks rows same short =
     let buffers : List (List ℕ) = batch_buffers types rows in
     let footer = footer_long names types blocks same in
     let message = message_short (length rows) (batch_nodes types rows) (buffer_places 0 buffers) (length (body_of buffers)) in
-    let nodes = length-batch_nodes types rows in
+    let nodes = length-nodes_from 0 types rows in
     let places = length-buffer_places 0 buffers in
-    let count = length-batch_buffers types rows in
+    let count = length-buffers_from 0 types rows in
     let few = buffers_few types in omega (arith, short, footer, message, nodes, places, count, few)
 
 -- and isn't empty

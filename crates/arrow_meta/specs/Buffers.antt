@@ -1,9 +1,10 @@
 -- What the buffers of a column hold (Arrow columnar format, "Physical Memory Layout").
 use Rattle.std.specs.Prelude.{ℕ, ◌+◌, ◌*◌, ◌/◌, ◌^◌, List, [], ◌∷◌, ◌++◌, Bool, true, false, length, map, replicate, if◌then◌else◌, get_or}
-use Rattle.std.specs.List.{range_with_len, sum_by, flat_map, list_all}
+use Rattle.std.specs.List.{range_with_len, enumerate_from, sum_by, flat_map, list_all}
 use Rattle.std.specs.Int.{w8, w16, w32, w64, w128, cast_unsigned}
 use Rattle.byteorder.specs.Endian.{little_bytes}
 use Rattle.fb_bytes.specs.Layout.{filled}
+use Rattle.sub_types.specs.Rows.{across}
 use Rattle.sub_types.specs.declared.kind.Kind.{Kind}
 use Rattle.sub_types.specs.declared.kind.Kind.TheVariants as kinds
 use Rattle.sub_types.specs.declared.kind.Ty.{Ty}
@@ -71,19 +72,13 @@ value_buffers kind column = flat_map (slot_bytes kind) column ∷ []
 abbrev pub column_buffers : Kind → List Value → List (List ℕ)
 column_buffers kind column = validity_buffer column ∷ value_buffers kind column
 
--- the first value of a row, and the others
-abbrev pub first_value : List Value → Value
-first_value [] = values.Null
-first_value (value ∷ row) = value
-
-abbrev pub other_values : List Value → List Value
-other_values [] = []
-other_values (value ∷ row) = row
+-- the values of the column at a place
+abbrev pub column_at : ℕ → List (List Value) → List Value
+column_at i rows = across values.Null rows i
 
 -- the buffers of all columns of rows
 abbrev pub batch_buffers : List Ty → List (List Value) → List (List ℕ)
-batch_buffers [] rows = []
-batch_buffers (ty ∷ types) rows = column_buffers ty.kind (map first_value rows) ++ batch_buffers types (map other_values rows)
+batch_buffers types rows = flat_map (λ column. column_buffers column.1.kind (column_at column.0 rows)) (enumerate_from 0 types)
 
 -- how many values are null
 abbrev pub null_count : List Value → ℕ
@@ -91,8 +86,7 @@ null_count column = sum_by (λ value. if is_valid value then 0 else 1) column
 
 -- the number of values and of nulls of each column
 abbrev pub batch_nodes : List Ty → List (List Value) → List (ℕ × ℕ)
-batch_nodes [] rows = []
-batch_nodes (ty ∷ types) rows = (length rows, null_count (map first_value rows)) ∷ batch_nodes types (map other_values rows)
+batch_nodes types rows = map (λ column. (length rows, null_count (column_at column.0 rows))) (enumerate_from 0 types)
 
 -- the buffers one after the other, each filled up to a multiple of 8
 abbrev pub body_of : List (List ℕ) → List ℕ

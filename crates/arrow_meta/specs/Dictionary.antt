@@ -1,10 +1,12 @@
 -- The dictionaries of a file (Arrow columnar format, "Dictionary Messages").
-use Rattle.std.specs.Prelude.{ℕ, suc, ◌^◌, ℤ, List, [], ◌∷◌, length, map, filter, Bool, true, Option, Some, None, nat_lt}
-use Rattle.std.specs.List.{list_all, flat_map}
+use Rattle.std.specs.Prelude.{ℕ, ◌^◌, ℤ, List, [], ◌∷◌, length, map, filter, Bool, true, Option, Some, None, nat_lt}
+use Rattle.std.specs.List.{list_all, flat_map, filter_map, enumerate_from}
+use Rattle.std.specs.Option.{option_map}
 use Rattle.std.specs.Ordering.{int_eq}
 use Rattle.arrow_meta.specs.declared.field.FieldMeta.{FieldMeta}
-use Rattle.arrow_meta.specs.declared.field.Layout.TheVariants.{Plain, Wide, Index}
-use Rattle.arrow_meta.specs.declared.field.Shape.TheVariants.{Known, Skip}
+use Rattle.arrow_meta.specs.declared.field.Layout.TheVariants.{Index}
+use Rattle.arrow_meta.specs.declared.field.Shape.{Shape}
+use Rattle.arrow_meta.specs.declared.field.Shape.TheVariants.{Known}
 use Rattle.arrow_meta.specs.declared.meta.RecordMeta.{RecordMeta}
 use Rattle.arrow_meta.specs.Message.{DictionaryMeta}
 use Rattle.sub_types.specs.OptionSteps.{◌>>=◌, when, all_of}
@@ -58,14 +60,16 @@ pub record ColumnDictionary : Type 0 where
   pub column : ℕ
   pub values : Option (List (Option (List ℕ)))
 
--- the dictionaries of the columns of indices, from the column i on
-abbrev pub dictionaries_from : List (Option DictionaryBlock) → ℕ → List FieldMeta → List ColumnDictionary
-dictionaries_from blocks i [] = []
-dictionaries_from blocks i (field ∷ fields) = elim field.shape [
-  | Known kind layout ↦ elim layout [
-    | Plain ↦ dictionaries_from blocks (suc i) fields
-    | Wide ↦ dictionaries_from blocks (suc i) fields
-    | Index id width signed wide ↦ record { column = i; values = dictionary_texts id wide blocks } ∷ dictionaries_from blocks (suc i) fields
-  ]
-  | Skip buffers ↦ dictionaries_from blocks (suc i) fields
-]
+-- the id of the dictionary that a column of indices names, and whether its offsets are wide
+abbrev pub index_of : Shape → Option (ℤ × Bool)
+index_of (Known kind (Index id width signed wide)) = Some (id, wide)
+index_of shape = None
+
+-- the dictionary of a numbered column, none where the column isn't one of indices
+abbrev pub column_dictionary : List (Option DictionaryBlock) → ℕ × FieldMeta → Option ColumnDictionary
+column_dictionary blocks column =
+    option_map (λ index. record { column = column.0; values = dictionary_texts index.0 index.1 blocks }) (index_of column.1.shape)
+
+-- the dictionaries of the columns of indices, in their order
+abbrev pub column_dictionaries : List (Option DictionaryBlock) → List FieldMeta → List ColumnDictionary
+column_dictionaries blocks columns = filter_map (column_dictionary blocks) (enumerate_from 0 columns)

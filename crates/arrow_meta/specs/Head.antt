@@ -12,7 +12,7 @@ use Rattle.arrow_meta.specs.Footer.{Footer, footer_in}
 use Rattle.arrow_meta.specs.Message.{DictionaryMeta, record_in, dictionary_in}
 use Rattle.arrow_meta.specs.Messages.{Place}
 use Rattle.arrow_meta.specs.Places.{is_arrow, footer_size, place_in, metadata_in, body_in}
-use Rattle.arrow_meta.specs.Dictionary.{DictionaryBlock, ColumnDictionary, dictionaries_from}
+use Rattle.arrow_meta.specs.Dictionary.{DictionaryBlock, ColumnDictionary, column_dictionaries}
 use Rattle.sub_types.specs.ResultSteps.{◌>>=◌}
 
 -- why a file isn't read: a footer that can't be read has its place
@@ -22,13 +22,14 @@ pub data Refusal : Type 0 where
   Unsupported : ℕ → Refusal
   Compressed : Refusal
 
-abbrev pub unless : {A : Type 0} → Bool → Refusal → Result A Refusal → Result A Refusal
-unless test refusal read = if test then Err refusal else read
+-- refused where a test holds, and else what is read
+abbrev pub refuse_if : {A : Type 0} → Bool → Refusal → Result A Refusal → Result A Refusal
+refuse_if test refusal read = if test then Err refusal else read
 
 -- where the footer begins, before its size and the last magic
 unfoldable pub footer_place : List ℕ → Result ℕ Refusal
 footer_place bytes = do
-  size ← unless (not (is_arrow bytes)) NotArrow (ok_or (footer_size bytes) (BadFooter (length bytes - 10)))
+  size ← refuse_if (not (is_arrow bytes)) NotArrow (ok_or (footer_size bytes) (BadFooter (length bytes - 10)))
   Ok (length bytes - 10 - size)
 
 -- why a footer at a place isn't read
@@ -99,7 +100,7 @@ head_with bytes place footer = record {
   columns = footer.columns;
   blocks = footer.records;
   metas = map (λ block. result_ok (record_at bytes place block)) footer.records;
-  dictionaries = dictionaries_from (map (dictionary_block bytes place) footer.dictionaries) 0 footer.columns;
+  dictionaries = column_dictionaries (map (dictionary_block bytes place) footer.dictionaries) footer.columns;
 }
 
 -- the head of a file
@@ -107,4 +108,4 @@ unfoldable pub head_of : List ℕ → Result Head Refusal
 head_of bytes = do
   place ← footer_place bytes
   footer ← footer_at bytes place
-  unless (has_compression bytes place footer) Compressed (Ok (head_with bytes place footer))
+  refuse_if (has_compression bytes place footer) Compressed (Ok (head_with bytes place footer))

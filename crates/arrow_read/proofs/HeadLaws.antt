@@ -3,7 +3,7 @@ use Rattle.std.proofs.Common.{◌≡◌, ℕ, ◌-◌, ◌≤◌, List, length, 
 use Rattle.std.specs.Option.{ok_or}
 use Rattle.arrow_meta.specs.Footer.{Footer}
 use Rattle.arrow_meta.specs.Places.{is_arrow, footer_size}
-use Rattle.arrow_meta.specs.Head.{Refusal, NotArrow, BadFooter, Compressed, Head, unless, footer_place, footer_at, has_compression, head_with, head_of}
+use Rattle.arrow_meta.specs.Head.{Refusal, NotArrow, BadFooter, Compressed, Head, refuse_if, footer_place, footer_at, has_compression, head_with, head_of}
 use Rattle.sub_types.specs.ResultSteps.{◌>>=◌}
 use Rattle.arrow_read.proofs.MetaLaws.{said_same}
 
@@ -23,7 +23,7 @@ bound (Err e) next y h = absurd (cc)
 start_within : (told : List ℕ) (start : ℕ) → footer_place told ≡ Ok start → start ≤ length told
 unfolding footer_place
 start_within told start h =
-    let found = bound (unless (not (is_arrow told)) NotArrow (ok_or (footer_size told) (BadFooter (length told - 10)))) (λ size. Ok (length told - 10 - size)) start h in
+    let found = bound (refuse_if (not (is_arrow told)) NotArrow (ok_or (footer_size told) (BadFooter (length told - 10)))) (λ size. Ok (length told - 10 - size)) start h in
     let last = found.1.1 in
     let same : length told - 10 - found.0 ≡ start = cc in
     omega (arith, same)
@@ -31,8 +31,8 @@ start_within told start h =
 pub head_parts : (told : List ℕ) (head : Head) → head_of told ≡ Ok head → IsHeadOf told head
 unfolding head_of
 head_parts told head h =
-    let placed = bound (footer_place told) (λ place. footer_at told place >>= λ footer. unless (has_compression told place footer) Compressed (Ok (head_with told place footer))) head h in
-    let footed = bound (footer_at told placed.0) (λ footer. unless (has_compression told placed.0 footer) Compressed (Ok (head_with told placed.0 footer))) head placed.1.1 in
+    let placed = bound (footer_place told) (λ place. footer_at told place >>= λ footer. refuse_if (has_compression told place footer) Compressed (Ok (head_with told place footer))) head h in
+    let footed = bound (footer_at told placed.0) (λ footer. refuse_if (has_compression told placed.0 footer) Compressed (Ok (head_with told placed.0 footer))) head placed.1.1 in
     record {
       start = placed.0;
       footer = footed.0;

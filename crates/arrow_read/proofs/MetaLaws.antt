@@ -5,16 +5,16 @@ use Rattle.std.proofs.lemmas.List.{take_more, take_all, map-append}
 use Rattle.std.proofs.lemmas.List.Folds.{list_any_more}
 use Rattle.arrow_meta.specs.declared.meta.Block.{Block}
 use Rattle.arrow_meta.specs.declared.meta.RecordMeta.{RecordMeta}
-use Rattle.arrow_meta.specs.Head.{Compressed, unless}
+use Rattle.arrow_meta.specs.Head.{Compressed, refuse_if}
 use Rattle.arrow_read.specs.Sound.{IsPlaced, ArePlaced}
-use Rattle.arrow_read.specs.Metas.{each_unless}
+use Rattle.arrow_read.specs.Metas.{refuse_if_any}
 
 -- what is said of a block that isn't compressed
-pub said_clean : {A : Type 0} (compressed : Bool) (said x : A) → unless compressed Compressed (Ok said) ≡ Ok x → compressed ≡ false
+pub said_clean : {A : Type 0} (compressed : Bool) (said x : A) → refuse_if compressed Compressed (Ok said) ≡ Ok x → compressed ≡ false
 said_clean true said x h = absurd (cc)
 said_clean false said x h = refl
 
-pub said_same : {A : Type 0} (compressed : Bool) (said x : A) → unless compressed Compressed (Ok said) ≡ Ok x → said ≡ x
+pub said_same : {A : Type 0} (compressed : Bool) (said x : A) → refuse_if compressed Compressed (Ok said) ≡ Ok x → said ≡ x
 said_same true said x h = absurd (cc)
 said_same false said x h = cc
 
@@ -31,7 +31,7 @@ map_more said blocks i d xs x below so one =
 
 -- what all blocks say
 pub each_all : {A : Type 0} (compressed : Block → Bool) (said : Block → A) (blocks : List Block) (n : ℕ) (xs : List A) → length blocks ≤ n
-    → list_any compressed (take n blocks) ≡ false → map said (take n blocks) ≡ xs → each_unless compressed said blocks ≡ Ok xs
+    → list_any compressed (take n blocks) ≡ false → map said (take n blocks) ≡ xs → refuse_if_any compressed said blocks ≡ Ok xs
 each_all compressed said blocks n xs all clean so =
     let whole = take_all n blocks all in
     let none : list_any compressed blocks ≡ false = ap (list_any compressed) (sym whole) ∙ clean in

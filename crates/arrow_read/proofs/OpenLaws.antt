@@ -5,15 +5,15 @@ use Rattle.std.specs.Result.{result_ok}
 use Rattle.std.proofs.lemmas.List.Folds.{list_any_at}
 use Rattle.arrow_meta.specs.declared.meta.Block.{Block}
 use Rattle.arrow_meta.specs.declared.meta.RecordMeta.{RecordMeta}
-use Rattle.arrow_meta.specs.Dictionary.{DictionaryBlock, ColumnDictionary, dictionaries_from}
+use Rattle.arrow_meta.specs.Dictionary.{DictionaryBlock, ColumnDictionary, column_dictionaries}
 use Rattle.arrow_meta.specs.Footer.{Footer}
-use Rattle.arrow_meta.specs.Head.{Refusal, NotArrow, BadFooter, Unsupported, Compressed, Head, footer_place, footer_at, unless, is_compressed, record_at, dictionary_at, dictionary_block, has_compression, head_with, head_of}
+use Rattle.arrow_meta.specs.Head.{Refusal, NotArrow, BadFooter, Unsupported, Compressed, Head, footer_place, footer_at, refuse_if, is_compressed, record_at, dictionary_at, dictionary_block, has_compression, head_with, head_of}
 use Rattle.arrow_read.specs.declared.error.OpenError.{OpenError}
 use Rattle.arrow_read.specs.declared.error.OpenError.TheVariants as open_errors
 use Rattle.arrow_read.specs.declared.metas.TextBlock.{TextBlock}
 use Rattle.arrow_read.specs.Extents.{AreWithin, IsWithin}
 use Rattle.arrow_read.specs.Refused.{Opens}
-use Rattle.arrow_read.specs.Metas.{each_unless, metas_of, texts_of}
+use Rattle.arrow_read.specs.Metas.{refuse_if_any, metas_of, texts_of}
 use Rattle.arrow_read.proofs.MetaLaws.{said_clean, said_same}
 
 -- why a part is refused is why the whole is
@@ -37,17 +37,17 @@ unfolding head_of
 no_footer told start r place h = rw (place, h) refl
 
 -- a refusal of blocks is that one is compressed
-pub said_compressed : {A : Type 0} (compressed : Bool) (said : A) (r : Refusal) → unless compressed Compressed (Ok said) ≡ Err r → compressed ≡ true
+pub said_compressed : {A : Type 0} (compressed : Bool) (said : A) (r : Refusal) → refuse_if compressed Compressed (Ok said) ≡ Err r → compressed ≡ true
 said_compressed true said r h = refl
 said_compressed false said r h = absurd (cc)
 
-pub said_refusal : {A : Type 0} (compressed : Bool) (said : A) (r : Refusal) → unless compressed Compressed (Ok said) ≡ Err r → r ≡ Compressed
+pub said_refusal : {A : Type 0} (compressed : Bool) (said : A) (r : Refusal) → refuse_if compressed Compressed (Ok said) ≡ Err r → r ≡ Compressed
 said_refusal true said r h = cc
 said_refusal false said r h = absurd (cc)
 
 -- a block that is compressed, among others
 pub each_refused : {A B : Type 0} (compressed : Block → Bool) (said : Block → A) (blocks : List Block) (i : ℕ) (d : Block) (one : B) (r : Refusal) → i < length blocks
-    → unless (compressed (get_or blocks i d)) Compressed (Ok one) ≡ Err r → each_unless compressed said blocks ≡ Err r
+    → refuse_if (compressed (get_or blocks i d)) Compressed (Ok one) ≡ Err r → refuse_if_any compressed said blocks ≡ Err r
 each_refused compressed said blocks i d one r below h =
     let some = list_any_at compressed blocks i d below (said_compressed (compressed (get_or blocks i d)) one r h) in
     rw (some, said_refusal (compressed (get_or blocks i d)) one r h) refl
@@ -88,7 +88,7 @@ open_head told start footer place at h = rw (place, at, h) refl
 
 pub head_is : (told : List ℕ) (start : ℕ) (footer : Footer) (metas : List (Option RecordMeta)) (texts : List (Option DictionaryBlock)) (dictionaries : List ColumnDictionary)
     → footer_place told ≡ Ok start → footer_at told start ≡ Ok footer → metas_of told start footer.records ≡ Ok metas → texts_of told start footer.dictionaries ≡ Ok texts
-    → dictionaries ≡ dictionaries_from texts 0 footer.columns
+    → dictionaries ≡ column_dictionaries texts footer.columns
     → head_of told ≡ Ok (record { columns = footer.columns; blocks = footer.records; metas = metas; dictionaries = dictionaries })
 unfolding has_compression head_with
 head_is told start footer metas texts dictionaries place at records blocks found =
@@ -100,8 +100,8 @@ head_is told start footer metas texts dictionaries place at records blocks found
     let head : List (Option RecordMeta) → List ColumnDictionary → Result Head Refusal = λ ms ds.
     Ok (record { columns = footer.columns; blocks = footer.records; metas = ms; dictionaries = ds }) in
     open_head told start footer place at none
-    ∙ ap (λ ms. head ms (dictionaries_from (map (dictionary_block told start) footer.dictionaries) 0 footer.columns)) same_records
-    ∙ ap (λ ts. head metas (dictionaries_from ts 0 footer.columns)) same_texts
+    ∙ ap (λ ms. head ms (column_dictionaries (map (dictionary_block told start) footer.dictionaries) footer.columns)) same_records
+    ∙ ap (λ ts. head metas (column_dictionaries ts footer.columns)) same_texts
     ∙ ap (head metas) (sym found)
 
 -- blocks before a place are before a later one

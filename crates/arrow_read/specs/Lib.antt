@@ -7,4 +7,3 @@ pub mod BlockReads
 pub mod Extents
 pub mod Metas
 pub mod Sizes
-pub mod Indices

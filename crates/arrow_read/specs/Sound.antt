@@ -1,14 +1,15 @@
 -- What is so of the head of any file.
-use Rattle.std.specs.Prelude.{◌≡◌, ℕ, suc, ◌-◌, ◌^◌, List, [], ◌∷◌, map, Option, Some, None, IsSome}
-use Rattle.std.specs.List.{All}
+use Rattle.std.specs.Prelude.{◌≡◌, ℕ, ◌-◌, ◌^◌, List, [], ◌∷◌, map, Option, Some, None, IsSome}
+use Rattle.std.specs.List.{All, filter_map, enumerate_from}
+use Rattle.std.specs.Option.{option_map}
 use Rattle.std.proofs.Props.{props}
 use Rattle.batch.specs.KindLaws.{IsKind-prop}
 use Rattle.arrow_meta.specs.declared.field.FieldMeta.{FieldMeta}
-use Rattle.arrow_meta.specs.declared.field.Layout.TheVariants.{Plain, Wide, Index}
 use Rattle.arrow_meta.specs.declared.field.Shape.{Shape}
 use Rattle.arrow_meta.specs.declared.field.Shape.TheVariants.{Known, Skip}
 use Rattle.arrow_meta.specs.declared.meta.Block.{Block}
 use Rattle.arrow_meta.specs.declared.meta.RecordMeta.{RecordMeta}
+use Rattle.arrow_meta.specs.Dictionary.{index_of}
 use Rattle.arrow_meta.specs.Known.{IsShape}
 use Rattle.arrow_meta.specs.Places.{place_in}
 use Rattle.arrow_decode.specs.RawColumn.{IsLayout-prop}
@@ -28,21 +29,17 @@ ArePlaced _ _ = Unit {0}
 abbrev pub AreShapes : List FieldMeta → Type 0
 AreShapes columns = All (λ field. IsShape field.shape) columns
 
--- the places of the columns of indices, from the column i on
-abbrev pub indexed_from : ℕ → List FieldMeta → List ℕ
-indexed_from i [] = []
-indexed_from i (field ∷ fields) = elim field.shape [
-  | Known kind layout ↦ elim layout [
-    | Plain ↦ indexed_from (suc i) fields
-    | Wide ↦ indexed_from (suc i) fields
-    | Index id width signed wide ↦ i ∷ indexed_from (suc i) fields
-  ]
-  | Skip buffers ↦ indexed_from (suc i) fields
-]
+-- the place of a numbered column, none where the column isn't one of indices
+abbrev pub index_place : ℕ × FieldMeta → Option ℕ
+index_place column = option_map (λ index. column.0) (index_of column.1.shape)
+
+-- the places of the columns of indices, in their order
+abbrev pub index_places : List FieldMeta → List ℕ
+index_places columns = filter_map index_place (enumerate_from 0 columns)
 
 -- there is a dictionary for each column of indices, in their order
 abbrev pub AreIndexed : List FieldMeta → List DictColumn → Type 0
-AreIndexed columns dictionaries = map (λ dictionary. dictionary.column) dictionaries ≡ indexed_from 0 columns
+AreIndexed columns dictionaries = map (λ dictionary. dictionary.column) dictionaries ≡ index_places columns
 
 pub IsPlaced-prop : (block : Block) → IsProp (IsPlaced block)
 IsPlaced-prop block = hlevel props

@@ -1,12 +1,11 @@
 // The dictionaries of the columns of indices.
 ghost use Rattle.std.specs.Prelude.{◌≡◌, ◌<◌, ◌^◌, length, map, IfOk};
 ghost use Rattle.world.specs.Counts.{HasCause};
-ghost use Rattle.arrow_meta.specs.Dictionary.{dictionaries_from};
+ghost use Rattle.arrow_meta.specs.Dictionary.{column_dictionaries, index_of};
 ghost use Rattle.arrow_decode.specs.Seen.{dictionary_seen};
 ghost use Rattle.arrow_read.specs.Told.{IfTold};
 ghost use Rattle.arrow_read.specs.Sound.{AreIndexed};
 ghost use Rattle.arrow_read.specs.Extents.{blocks_seen, AreWithin};
-ghost use Rattle.arrow_read.specs.Indices.{index_of};
 
 use crate::dictionary::dictionary;
 use crate::metas::TextBlock;
@@ -25,7 +24,7 @@ pub(crate) fn dictionaries<R: Reader>(
     requires few { length columns.now < 2 ^ 32 }
     requires within { IfTold (R.bytes reader.old) (λ told. AreWithin (length told) blocks.now) }
     ensures dictionaries { IfOk result (λ found. IfTold (R.bytes reader.old) (λ told.
-        map dictionary_seen found.items ≡ dictionaries_from (blocks_seen told blocks.now) 0 columns.now)) }
+        map dictionary_seen found.items ≡ column_dictionaries (blocks_seen told blocks.now) columns.now)) }
     ensures indexed { IfOk result (λ found. AreIndexed columns.now found.items) }
     ensures cause { HasCause FolderError.Failed (R.faults reader.old) (R.faults reader.new) result }
     ensures bytes { R.bytes reader.new ≡ R.bytes reader.old }

@@ -1,10 +1,9 @@
 -- Buffers one behind the other, and the buffers of columns as those of rows.
-use Rattle.std.proofs.Common.{◌≡◌, ◌+◌, ◌-◌, ◌%◌, ◌≤◌, ◌∙◌, ℕ, ℤ, List, [], ◌∷◌, ◌++◌, length, map, get_or, take, replicate, sym, ap, refl, arith, append_assoc, append-nil}
+use Rattle.std.proofs.Common.{◌≡◌, ◌+◌, ◌-◌, ◌%◌, ◌<◌, ◌≤◌, ◌∙◌, ℕ, suc, ℤ, List, [], ◌∷◌, ◌++◌, length, map, get_or, take, replicate, sym, ap, refl, arith, append_assoc, append-nil, add-zero, zero-add}
 use Rattle.std.specs.List.{All, flat_map, range_with_len}
 use Rattle.std.specs.Int.{w64, cast_unsigned}
-use Rattle.std.proofs.lemmas.List.{map_push, length-append, take-replicate}
+use Rattle.std.proofs.lemmas.List.{map_push, length-append, length-map, get_or-map, take-replicate}
 use Rattle.std.proofs.lemmas.List.Concat.{flat_map-append}
-use Rattle.std.proofs.lemmas.List.Elements.{All-head, All-tail}
 use Rattle.std.proofs.lemmas.List.FromFn.{fill_by_all}
 use Rattle.fb_bytes.specs.Layout.{filled, round_up}
 use Rattle.sub_types.specs.declared.kind.Ty.{Ty}
@@ -15,9 +14,9 @@ use Rattle.batch.specs.declared.column.Column.{Column}
 use Rattle.batch.specs.Column.{column_values, column_type}
 use Rattle.batch.specs.BatchRows.{types_of, rows_of}
 use Rattle.sub_types.specs.Rows.{across, transpose}
-use Rattle.batch.proofs.RowLaws.{length-transpose}
-use Rattle.arrow_meta.specs.Buffers.{column_buffers, null_count, body_of, buffer_places, batch_buffers, batch_nodes, first_value, other_values}
+use Rattle.arrow_meta.specs.Buffers.{column_buffers, null_count, body_of, buffer_places, column_at, batch_buffers, batch_nodes}
 use Rattle.arrow_meta.specs.Meta.{unsigned_pair}
+use Rattle.arrow_meta.proofs.ColumnLaws.{buffers_from, nodes_from}
 use Rattle.arrow_write.specs.declared.body.Body.{Body}
 use Rattle.arrow_write.specs.Bodies.{Puts, PutsNode, HasRows, buffers_of, node_of}
 
@@ -91,38 +90,53 @@ HasColumns-more columns column old new so_far put node =
       nodes = node ∙ ap (λ front. front ++ node_of column ∷ []) so_far.nodes ∙ sym (map_push node_of columns column);
     }
 
--- the first values of rows over columns are the first column, and the others are rows over the others
-firsts : (column : List Value) (columns : List (List Value)) (js : List ℕ) → map first_value (map (across Null (column ∷ columns)) js) ≡ map (λ i. get_or column i Null) js
-firsts column columns [] = refl
-firsts column columns (j ∷ js) = ap (λ rest. get_or column j Null ∷ rest) (firsts column columns js)
+-- the column at a place of rows over columns
+across_rows : (lists : List (List Value)) (i : ℕ) (js : List ℕ) → i < length lists → column_at i (map (across Null lists) js) ≡ map (λ j. get_or (get_or lists i []) j Null) js
+across_rows lists i [] below = refl
+across_rows lists i (j ∷ js) below =
+    ap (λ value. value ∷ column_at i (map (across Null lists) js)) (get_or-map (λ list. get_or list j Null) lists i [] Null below)
+    ∙ ap (λ rest. get_or (get_or lists i []) j Null ∷ rest) (across_rows lists i js below)
 
-others : (column : List Value) (columns : List (List Value)) (js : List ℕ) → map other_values (map (across Null (column ∷ columns)) js) ≡ map (across Null columns) js
-others column columns [] = refl
-others column columns (j ∷ js) = ap (λ rest. across Null columns j ∷ rest) (others column columns js)
+column_back : (n : ℕ) (lists : List (List Value)) (i : ℕ) → i < length lists → length (get_or lists i []) ≡ n → column_at i (transpose Null n lists) ≡ get_or lists i []
+column_back n lists i below long =
+    across_rows lists i (range_with_len 0 n) below ∙ sym (fill_by_all (λ j. get_or (get_or lists i []) j Null) (get_or lists i []) n Null long (λ k within. refl))
 
-first_column : (n : ℕ) (column : List Value) (columns : List (List Value)) → length column ≡ n → map first_value (transpose Null n (column ∷ columns)) ≡ column
-first_column n column columns long = firsts column columns (range_with_len 0 n) ∙ sym (fill_by_all (λ i. get_or column i Null) column n Null long (λ k below. refl))
+-- the columns of rows from the one at i on are these
+abbrev AreFrom : List (List Value) → ℕ → List Column → Type 0
+AreFrom rows i columns = (k : ℕ) (d : Column) → k < length columns → column_at (i + k) rows ≡ column_values (get_or columns k d)
+
+first_from : (rows : List (List Value)) (i : ℕ) (column : Column) (columns : List Column) → AreFrom rows i (column ∷ columns) → column_at i rows ≡ column_values column
+first_from rows i column columns are = ap (λ n. column_at n rows) (sym (add-zero i)) ∙ are 0 column (omega arith)
+
+others_from : (rows : List (List Value)) (i : ℕ) (column : Column) (columns : List Column) → AreFrom rows i (column ∷ columns) → AreFrom rows (i + 1) columns
+others_from rows i column columns are = λ k d below. let next : i + 1 + k ≡ i + suc k = omega arith in ap (λ n. column_at n rows) next ∙ are (suc k) d (omega arith)
+
+buffers_are : (rows : List (List Value)) (i : ℕ) (columns : List Column) → AreFrom rows i columns → buffers_from i (map column_type columns) rows ≡ flat_map buffers_of columns
+buffers_are rows i [] are = refl
+buffers_are rows i (column ∷ columns) are =
+    ap (λ values. column_buffers column.ty.kind values ++ buffers_from (i + 1) (map column_type columns) rows) (first_from rows i column columns are)
+    ∙ ap (λ rest. buffers_of column ++ rest) (buffers_are rows (i + 1) columns (others_from rows i column columns are))
+
+nodes_are : (rows : List (List Value)) (i : ℕ) (columns : List Column) → AreFrom rows i columns → nodes_from i (map column_type columns) rows ≡ map node_of columns
+nodes_are rows i [] are = refl
+nodes_are rows i (column ∷ columns) are =
+    let here = first_from rows i column columns are in
+    let long : length rows ≡ length (column_values column) = sym (length-map rows (λ row. get_or row i Null)) ∙ ap length here in
+    ap (λ n. (n, null_count (column_at i rows)) ∷ nodes_from (i + 1) (map column_type columns) rows) long
+    ∙ ap (λ values. (length (column_values column), null_count values) ∷ nodes_from (i + 1) (map column_type columns) rows) here
+    ∙ ap (λ rest. node_of column ∷ rest) (nodes_are rows (i + 1) columns (others_from rows i column columns are))
+
+columns_are : (n : ℕ) (columns : List Column) → All (λ column. length (column_values column) ≡ n) columns → AreFrom (transpose Null n (map column_values columns)) 0 columns
+columns_are n columns long = λ k d below.
+    let lists : List (List Value) = map column_values columns in
+    let here : get_or lists k [] ≡ column_values (get_or columns k d) = get_or-map column_values columns k d [] below in
+    ap (λ i. column_at i (transpose Null n lists)) (zero-add k) ∙ column_back n lists k (omega (arith, below, length-map columns column_values)) (ap length here ∙ long k d below) ∙ here
 
 pub buffers-of-rows : (n : ℕ) (columns : List Column) → All (λ column. length (column_values column) ≡ n) columns → batch_buffers (map column_type columns) (transpose Null n (map column_values columns)) ≡ flat_map buffers_of columns
-buffers-of-rows n [] long = refl
-buffers-of-rows n (column ∷ columns) long =
-    let types = map column_type columns in
-    let lists = map column_values columns in
-    let rest = buffers-of-rows n columns (All-tail (λ column. length (column_values column) ≡ n) column columns long) in
-    ap (λ first. column_buffers column.ty.kind first ++ batch_buffers types (map other_values (transpose Null n (column_values column ∷ lists)))) (first_column n (column_values column) lists (All-head (λ column. length (column_values column) ≡ n) column columns long))
-    ∙ ap (λ rows. buffers_of column ++ batch_buffers types rows) (others (column_values column) lists (range_with_len 0 n)) ∙ ap (λ back. buffers_of column ++ back) rest
+buffers-of-rows n columns long = buffers_are (transpose Null n (map column_values columns)) 0 columns (columns_are n columns long)
 
 pub nodes-of-rows : (n : ℕ) (columns : List Column) → All (λ column. length (column_values column) ≡ n) columns → batch_nodes (map column_type columns) (transpose Null n (map column_values columns)) ≡ map node_of columns
-nodes-of-rows n [] long = refl
-nodes-of-rows n (column ∷ columns) long =
-    let types = map column_type columns in
-    let lists = map column_values columns in
-    let here = All-head (λ column. length (column_values column) ≡ n) column columns long in
-    let rest = nodes-of-rows n columns (All-tail (λ column. length (column_values column) ≡ n) column columns long) in
-    let rows = transpose Null n (column_values column ∷ lists) in
-    ap (λ m. (m, null_count (map first_value rows)) ∷ batch_nodes types (map other_values rows)) (length-transpose Null n (column_values column ∷ lists) ∙ sym here)
-    ∙ ap (λ first. (length (column_values column), null_count first) ∷ batch_nodes types (map other_values rows)) (first_column n (column_values column) lists here)
-    ∙ ap (λ others. node_of column ∷ batch_nodes types others) (others (column_values column) lists (range_with_len 0 n)) ∙ ap (λ back. node_of column ∷ back) rest
+nodes-of-rows n columns long = nodes_are (transpose Null n (map column_values columns)) 0 columns (columns_are n columns long)
 
 pub HasRows-of-columns : (batch : Batch) (body : Body) → HasColumns batch.columns.items body → HasRows (types_of batch) (rows_of batch) body
 HasRows-of-columns batch body has =
@@ -137,21 +151,21 @@ HasRows-of-columns batch body has =
 pub HasRows-none : (body : Body) → body.bytes.items ≡ [] → body.places.items ≡ [] → body.nodes.items ≡ [] → HasRows [] [] body
 HasRows-none body bytes places nodes = record { bytes = bytes; places = ap (map unsigned_pair) places; nodes = ap (map unsigned_pair) nodes }
 
-no_values-append : (types more : List Ty) → batch_buffers (types ++ more) [] ≡ batch_buffers types [] ++ batch_buffers more []
-no_values-append [] more = refl
-no_values-append (ty ∷ types) more =
-    ap (λ back. column_buffers ty.kind [] ++ back) (no_values-append types more) ∙ sym (append_assoc (column_buffers ty.kind []) (batch_buffers types []) (batch_buffers more []))
+no_values-more : (i : ℕ) (types : List Ty) (ty : Ty) → buffers_from i (types ++ ty ∷ []) [] ≡ buffers_from i types [] ++ column_buffers ty.kind []
+no_values-more i [] ty = append-nil (column_buffers ty.kind [])
+no_values-more i (first ∷ types) ty =
+    ap (λ rest. column_buffers first.kind [] ++ rest) (no_values-more (i + 1) types ty) ∙ sym (append_assoc (column_buffers first.kind []) (buffers_from (i + 1) types []) (column_buffers ty.kind []))
 
-no_nodes-append : (types more : List Ty) → batch_nodes (types ++ more) [] ≡ batch_nodes types [] ++ batch_nodes more []
-no_nodes-append [] more = refl
-no_nodes-append (ty ∷ types) more = ap (λ back. (0, 0) ∷ back) (no_nodes-append types more)
+no_nodes-more : (i : ℕ) (types : List Ty) (ty : Ty) → nodes_from i (types ++ ty ∷ []) [] ≡ nodes_from i types [] ++ (0, 0) ∷ []
+no_nodes-more i [] ty = refl
+no_nodes-more i (first ∷ types) ty = ap (λ rest. (0, 0) ∷ rest) (no_nodes-more (i + 1) types ty)
 
 pub HasRows-more : (types : List Ty) (ty : Ty) (old new : Body) → HasRows types [] old → Puts old new (column_buffers ty.kind []) → PutsNode old new (0, 0) → HasRows (types ++ ty ∷ []) [] new
 HasRows-more types ty old new so_far put node =
     let both = holds_more old new (batch_buffers types []) (column_buffers ty.kind []) so_far.bytes so_far.places put in
-    let all : batch_buffers types [] ++ column_buffers ty.kind [] ≡ batch_buffers (types ++ ty ∷ []) [] = sym (no_values-append types (ty ∷ []) ∙ ap (λ last. batch_buffers types [] ++ last) (append-nil (column_buffers ty.kind []))) in
+    let all : batch_buffers types [] ++ column_buffers ty.kind [] ≡ batch_buffers (types ++ ty ∷ []) [] = sym (no_values-more 0 types ty) in
     record {
       bytes = both.0 ∙ ap body_of all;
       places = both.1 ∙ ap (buffer_places 0) all;
-      nodes = node ∙ ap (λ front. front ++ (0, 0) ∷ []) so_far.nodes ∙ sym (no_nodes-append types (ty ∷ []));
+      nodes = node ∙ ap (λ front. front ++ (0, 0) ∷ []) so_far.nodes ∙ sym (no_nodes-more 0 types ty);
     }

@@ -9,10 +9,11 @@ use Rattle.sub_types.specs.declared.kind.Kind.{Kind}
 use Rattle.sub_types.specs.declared.kind.Kind.TheVariants as kinds
 use Rattle.sub_types.specs.declared.kind.Ty.{Ty}
 use Rattle.sub_types.specs.declared.value.Value.{Value}
-use Rattle.arrow_meta.specs.Buffers.{column_buffers, batch_buffers, batch_nodes, buffer_places, body_of, first_value, other_values}
+use Rattle.arrow_meta.specs.Buffers.{column_buffers, column_at, batch_buffers, batch_nodes, buffer_places, body_of}
 use Rattle.arrow_meta.specs.Messages.{record_message}
 use Rattle.arrow_meta.specs.Meta.{unsigned_pair}
 use Rattle.arrow_meta.specs.File.{batch_message, batch_metadata, framed}
+use Rattle.arrow_meta.proofs.ColumnLaws.{buffers_from, length-nodes_from}
 use Rattle.arrow_write.specs.declared.body.Body.{Body}
 use Rattle.arrow_write.specs.declared.message.Message.{Message}
 use Rattle.arrow_write.specs.Bodies.{HasRows}
@@ -31,27 +32,23 @@ few_of_column kinds.Text column = omega arith
 few_of_column kinds.Binary column = omega arith
 few_of_column _ column = omega arith
 
-few_of_columns : (types : List Ty) (rows : List (List Value)) → length (batch_buffers types rows) ≤ 3 * length types
-few_of_columns [] rows = omega arith
-few_of_columns (ty ∷ types) rows =
-    let rest = few_of_columns types (map other_values rows) in
-    let first = column_buffers ty.kind (map first_value rows) in
-    omega (arith, rest, few_of_column ty.kind (map first_value rows), length-append first (batch_buffers types (map other_values rows)))
+few_of_columns : (i : ℕ) (types : List Ty) (rows : List (List Value)) → length (buffers_from i types rows) ≤ 3 * length types
+few_of_columns i [] rows = omega arith
+few_of_columns i (ty ∷ types) rows =
+    let rest = few_of_columns (i + 1) types rows in
+    let first = column_buffers ty.kind (column_at i rows) in
+    omega (arith, rest, few_of_column ty.kind (column_at i rows), length-append first (buffers_from (i + 1) types rows))
 
 length-places : (place : ℕ) (buffers : List (List ℕ)) → length (buffer_places place buffers) ≡ length buffers
 length-places place [] = refl
 length-places place (buffer ∷ buffers) = let rest = length-places (place + length (filled buffer)) buffers in omega (arith, rest)
 
-length-nodes : (types : List Ty) (rows : List (List Value)) → length (batch_nodes types rows) ≡ length types
-length-nodes [] rows = refl
-length-nodes (ty ∷ types) rows = let rest = length-nodes types (map other_values rows) in omega (arith, rest)
-
 pub few_nodes : (types : List Ty) (rows : List (List Value)) (body : Body) → HasRows types rows body → length types ≤ 1024 → length body.nodes.items ≤ 1024
-few_nodes types rows body has few = omega (arith, few, length-map body.nodes.items unsigned_pair, ap length has.nodes, length-nodes types rows)
+few_nodes types rows body has few = omega (arith, few, length-map body.nodes.items unsigned_pair, ap length has.nodes, length-nodes_from 0 types rows)
 
 pub few_places : (types : List Ty) (rows : List (List Value)) (body : Body) → HasRows types rows body → length types ≤ 1024 → length body.places.items ≤ 3072
 few_places types rows body has few =
-    omega (arith, few, length-map body.places.items unsigned_pair, ap length has.places, length-places 0 (batch_buffers types rows), few_of_columns types rows)
+    omega (arith, few, length-map body.places.items unsigned_pair, ap length has.places, length-places 0 (batch_buffers types rows), few_of_columns 0 types rows)
 
 pub message_is : (types : List Ty) (rows : List (List Value)) (body : Body) (message : Message) (metadata : List ℕ) (count : ℕ) (len body_len : ℤ) (nodes places : List (ℤ × ℤ))
     → HasRows types rows body → length rows ≡ count → cast_unsigned w64 len ≡ count → nodes ≡ body.nodes.items → places ≡ body.places.items → cast_unsigned w64 body_len ≡ length body.bytes.items

@@ -42,7 +42,7 @@ returns-in_err-shapes-clause-bad g c =
     never_bad c.from_residual-in_err-shapes.result head.metas.items c.args.block c.in-Some.meta good (search rules)
 
 pub read_body-requires-clause-placed : goal.read_body-requires-clause-placed
-read_body-requires-clause-placed g c κs within =
+read_body-requires-clause-placed g c =
     let head = c.args.head.now in
     let below : c.args.block < length head.metas.items = omega (arith, c.requires.exists, head.same_count, head.metas.ok.0, head.blocks.ok.0) in
     let inside : c.args.block < length head.blocks.items = omega (arith, c.requires.exists, head.blocks.ok.0) in
@@ -51,7 +51,7 @@ read_body-requires-clause-placed g c κs within =
     good_placed head.blocks.items head.metas.items c.args.block c.index-2.result.now c.in-Some.meta head.placed at good
 
 pub read_body-requires-clause-within : goal.read_body-requires-clause-within
-read_body-requires-clause-within g c κs within = λ told is.
+read_body-requires-clause-within g c = λ told is.
     let head = c.args.head.now in
     let below : c.args.block < length head.metas.items = omega (arith, c.requires.exists, head.same_count, head.metas.ok.0, head.blocks.ok.0) in
     let inside : c.args.block < length head.blocks.items = omega (arith, c.requires.exists, head.blocks.ok.0) in

@@ -1,6 +1,7 @@
 use Rattle.std.proofs.Common.{◌≡◌, ◌∙◌, ◌+◌, ◌++◌, ℕ, List, Option, map, drop, refl, sym, ap, w64, to_z, of_z, arith, rules}
-use Rattle.arrow_meta.specs.Dictionary.{ColumnDictionary, dictionary_texts, dictionaries_from}
-use Rattle.arrow_read.specs.Sound.{indexed_from}
+use Rattle.std.specs.List.{filter_map, enumerate_from}
+use Rattle.arrow_meta.specs.Dictionary.{ColumnDictionary, dictionary_texts, column_dictionary}
+use Rattle.arrow_read.specs.Sound.{index_place}
 use Rattle.arrow_decode.specs.declared.dictionary.DictColumn.{DictColumn}
 use Rattle.arrow_decode.specs.Seen.{dictionary_seen}
 use Rattle.arrow_read.specs.Extents.{blocks_seen}
@@ -35,9 +36,9 @@ loop-i-preserved g c =
           let texts = c.in_ok-values.ensures.texts told (c.loop-i.invariant.bytes ∙ is) ∙ ap (λ id. dictionary_texts id c.in-Some.wide blocks) same in
           c.loop-i.invariant.dictionaries told is
           ∙ ap (λ ds. map dictionary_seen found ++ ds) (next_dictionary blocks columns i c.index-columns-i.result _ c.loop-i-test.true named)
-          ∙ one_more dictionary_seen found c.push.new.self.items _ _ (dictionaries_from blocks (i + 1) (drop (i + 1) columns)) c.in_ok-push.ensures.items (ap seen (sym texts));
+          ∙ one_more dictionary_seen found c.push.new.self.items _ _ (filter_map (column_dictionary blocks) (enumerate_from (i + 1) (drop (i + 1) columns))) c.in_ok-push.ensures.items (ap seen (sym texts));
       indexed =
           c.loop-i.invariant.indexed
           ∙ ap (λ places. map (λ (dictionary : DictColumn). dictionary.column) found ++ places) (next_place columns i c.index-columns-i.result _ c.loop-i-test.true named)
-          ∙ one_more (λ (dictionary : DictColumn). dictionary.column) found c.push.new.self.items _ _ (indexed_from (i + 1) (drop (i + 1) columns)) c.in_ok-push.ensures.items refl;
+          ∙ one_more (λ (dictionary : DictColumn). dictionary.column) found c.push.new.self.items _ _ (filter_map index_place (enumerate_from (i + 1) (drop (i + 1) columns))) c.in_ok-push.ensures.items refl;
     }

@@ -61,8 +61,8 @@ returns-then-not-follows-clause-texts g c = λ told is.
     ∙ c.loop-block.invariant.texts told is
     ∙ ap (λ n. dictionary_texts n c.args.wide (blocks_seen told c.args.blocks.now)) (to_z-of_z w64 c.args.id c.ranges.id)
 
-pub block_texts-requires-after_bounds : goal.block_texts-requires-after_bounds
-block_texts-requires-after_bounds g c κs within = λ told is.
+pub block_texts-requires : goal.block_texts-requires
+block_texts-requires g c = λ told is.
     let below : c.loop-block.block-index < length c.args.blocks.now = omega arith in
     let one = c.requires told (sym c.loop-block.invariant.bytes ∙ is) c.loop-block.block-index c.block-item.result below in
     let P : Option _ → Type 0 = λ found. IfSome found (IsWithin (length told)) in

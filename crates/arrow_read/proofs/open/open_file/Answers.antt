@@ -1,7 +1,7 @@
 use Rattle.std.proofs.Common.{rules, ◌∙◌, ℕ, List, Vec, Global, Option, Err, sym, ap, subst}
 use Rattle.arrow_meta.specs.declared.field.FieldMeta.{FieldMeta}
 use Rattle.arrow_meta.specs.declared.meta.Block.{Block}
-use Rattle.arrow_meta.specs.Dictionary.{dictionaries_from}
+use Rattle.arrow_meta.specs.Dictionary.{column_dictionaries}
 use Rattle.arrow_meta.specs.Footer.{Footer}
 use Rattle.arrow_meta.specs.Head.{footer_place, footer_at, head_of}
 use Rattle.arrow_meta.specs.Seen.{footer_seen}
@@ -87,7 +87,7 @@ returns-clause-head g c = λ told is.
     let metas = ap (metas_of told start) (sym c.deref.ensures.value) ∙ c.in_ok-metas.ensures.metas told footed in
     let texts = ap (texts_of told start) (sym c.deref-2.ensures.value) ∙ c.in_ok-texts.ensures.blocks told said in
     let dictionaries = c.in_ok-dictionaries.ensures.dictionaries told (c.in_ok-texts.ensures.bytes ∙ said)
-    ∙ ap (λ found. dictionaries_from (blocks_seen told found) 0 c.fields.result.now) c.deref-3.ensures.value
-    ∙ ap (dictionaries_from (blocks_seen told c.in_ok-texts.texts.items) 0) c.fields.ensures in
+    ∙ ap (λ found. column_dictionaries (blocks_seen told found) c.fields.result.now) c.deref-3.ensures.value
+    ∙ ap (column_dictionaries (blocks_seen told c.in_ok-texts.texts.items)) c.fields.ensures in
     head_is told start footer c.in_ok-metas.metas.items (blocks_seen told c.in_ok-texts.texts.items) _
     (c.in_ok-start.ensures.start told opened) (c.in_ok-schema.ensures.footer told placed) metas texts dictionaries

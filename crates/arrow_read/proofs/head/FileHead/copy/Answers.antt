@@ -2,7 +2,7 @@ use Rattle.std.proofs.Common.{rules, ◌≡◌, ◌∙◌, List, Option, map, sy
 use Rattle.arrow_meta.specs.Dictionary.{ColumnDictionary}
 use Rattle.arrow_meta.specs.declared.meta.Block.{Block}
 use Rattle.arrow_meta.specs.declared.meta.RecordMeta.{RecordMeta}
-use Rattle.arrow_read.specs.Sound.{ArePlaced, AreShapes, indexed_from}
+use Rattle.arrow_read.specs.Sound.{ArePlaced, AreShapes, index_places}
 use Rattle.arrow_read.proofs.WantedLaws.{columns_seen}
 use Rattle.arrow_read.proofs.head.FileHead.copy.Goals as goal
 
@@ -12,7 +12,7 @@ invariant_of-result-clause-indexed c =
     let copied = c.in_ok-dictionaries_copy.field-0.items in
     sym (columns_seen copied)
     ∙ ap (map (λ (d : ColumnDictionary). d.column)) (c.in_ok-dictionaries_copy.ensures ∙ ap (map _) c.deref-3.ensures.value)
-    ∙ columns_seen head.dictionaries.items ∙ head.indexed ∙ ap (indexed_from 0) (sym c.in_ok-schema_copy.ensures)
+    ∙ columns_seen head.dictionaries.items ∙ head.indexed ∙ ap index_places (sym c.in_ok-schema_copy.ensures)
 
 pub invariant_of-result-clause-placed : goal.invariant_of-result-clause-placed
 invariant_of-result-clause-placed c =
