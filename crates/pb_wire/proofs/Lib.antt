@@ -5,3 +5,4 @@ pub mod PlaceLaws
 pub mod LongerLaws
 pub mod FieldLaws
 pub mod PackedLaws
+pub mod NumberLaws

@@ -1,6 +1,6 @@
 -- The payload rules of proto3, over the list of a message's records (Protocol Buffers encoding, "Optional and Repeated
 -- Elements", "Last One Wins", "Oneofs").
-use Rattle.std.specs.Prelude.{ℕ, zero, suc, ◌-◌, ◌%◌, ◌^◌, ℤ, List, [], ◌∷◌, Bool, false, pos, Option, Some, None, if◌then◌else◌, ◌==◌, ◌&&◌, not, map, filter, unwrap_or, is_none}
+use Rattle.std.specs.Prelude.{◌≡◌, ℕ, zero, suc, ◌+◌, ◌-◌, ◌%◌, ◌^◌, ℤ, List, [], ◌∷◌, Bool, false, pos, Option, Some, None, if◌then◌else◌, ◌==◌, ◌&&◌, not, map, filter, length, drop, unwrap_or, is_none}
 use Rattle.std.specs.List.{filter_map, flat_map, concat, last_or, list_any}
 use Rattle.std.specs.Option.{option_map, option_and_then, option_map_or}
 use Rattle.std.specs.Int.{w32, w64, cast_signed}
@@ -78,6 +78,19 @@ packed_from (byte ∷ bytes) zero = option_and_then (λ found. option_map (λ re
 -- the varints that stand one after the other and fill a packed payload, or none where they don't fill it
 unfoldable pub packed_numbers : List ℕ → Option (List ℕ)
 packed_numbers bytes = packed_from bytes 0
+
+-- the value and the length of the varint that begins at a place
+abbrev pub varint_at : List ℕ → ℕ → Option (ℕ × ℕ)
+varint_at bytes place = varint_of (drop place bytes)
+
+-- from a place on varints of these values stand one after the other, and the last ends at the end of the bytes
+abbrev pub AreNumbersFrom : List ℕ → ℕ → List ℕ → Type 0
+AreNumbersFrom bytes place [] = place ≡ length bytes
+AreNumbersFrom bytes place (number ∷ numbers) = (size : ℕ) × (varint_at bytes place ≡ Some (number, size)) × AreNumbersFrom bytes (place + size) numbers
+
+-- the numbers of a packed payload, from its first byte on
+abbrev pub AreNumbers : List ℕ → List ℕ → Type 0
+AreNumbers bytes numbers = AreNumbersFrom bytes 0 numbers
 
 -- what a record gives a field of repeated numbers, packed or not
 abbrev pub numbers_in : ℕ → Field → List ℕ

@@ -10,7 +10,7 @@ mod packed;
 mod record;
 
 pub use fields::Fields;
-pub use laws::{records_by_places, records_of_joined};
+pub use laws::{numbers_by_places, records_by_places, records_of_joined};
 pub use number::varint;
 pub use packed::Packed;
 pub use record::{Payload, Record};

@@ -11,22 +11,22 @@ use Rattle.plan_scan.specs.declared.shape.Shape.TheVariants.{Plan}
 use Rattle.plan_scan.specs.declared.shape.Use.{Use}
 use Rattle.plan_scan.specs.declared.shape.Use.TheVariants as uses
 use Rattle.plan_scan.specs.Table.{use_of}
-use Rattle.plan_scan.specs.Flaw.{MessageFlaw, message_flaw, block_flaw, record_flaw, first_flaw, unless, flaw}
+use Rattle.plan_scan.specs.Flaw.{MessageFlaw, message_flaw, block_flaw, record_flaw, first_flaw, flaw_unless, flaw}
 use Rattle.plan_scan.specs.Scanned.{block_well, field_well, is_readable}
 
 -- the message has no flaw wherever it stands
 abbrev Agrees : MessageFlaw → (Shape → List ℕ → Bool) → Type 0
 Agrees flaw well = (shape : Shape) (place start : ℕ) (bytes : List ℕ) → flaw shape place start bytes ≡ None → well shape bytes ≡ true
 
-unless_none : (well : Bool) (place : ℕ) → unless well place ≡ None → well ≡ true
-unless_none true place e = refl
-unless_none false place e = cc
+flaw_unless_none : (well : Bool) (place : ℕ) → flaw_unless well place ≡ None → well ≡ true
+flaw_unless_none true place e = refl
+flaw_unless_none false place e = cc
 
 block_none : (flaw : MessageFlaw) (well : Shape → List ℕ → Bool) → Agrees flaw well → (holds : Use) (place start : ℕ) (bytes : List ℕ) → block_flaw flaw holds place start bytes ≡ None → block_well well holds bytes ≡ true
 block_none flaw well agrees uses.Unnamed place start bytes e = refl
 block_none flaw well agrees uses.Number place start bytes e = refl
-block_none flaw well agrees uses.Numbers place start bytes e = unless_none (is_some (packed_numbers bytes)) place e
-block_none flaw well agrees uses.Text place start bytes e = unless_none (is_utf8 bytes) place e
+block_none flaw well agrees uses.Numbers place start bytes e = flaw_unless_none (is_some (packed_numbers bytes)) place e
+block_none flaw well agrees uses.Text place start bytes e = flaw_unless_none (is_utf8 bytes) place e
 block_none flaw well agrees uses.Bytes place start bytes e = refl
 block_none flaw well agrees (uses.Message shape) place start bytes e = agrees shape place start bytes e
 

@@ -16,16 +16,16 @@ use Rattle.plan_scan.specs.Table.{use_of}
 abbrev pub MessageFlaw : Type 0
 MessageFlaw = Shape → ℕ → ℕ → List ℕ → Option Flaw
 
--- unreadable at this place, but where all is well
-abbrev pub unless : Bool → ℕ → Option Flaw
-unless well place = if well then None else Some (Unreadable place)
+-- a flaw at this place, unless all is well there
+abbrev pub flaw_unless : Bool → ℕ → Option Flaw
+flaw_unless well place = if well then None else Some (Unreadable place)
 
 -- the flaw of a block of this use: its record's place, its own, and its bytes
 abbrev pub block_flaw : MessageFlaw → Use → ℕ → ℕ → List ℕ → Option Flaw
 block_flaw message uses.Unnamed place start bytes = None
 block_flaw message uses.Number place start bytes = None
-block_flaw message uses.Numbers place start bytes = unless (is_some (packed_numbers bytes)) place
-block_flaw message uses.Text place start bytes = unless (is_utf8 bytes) place
+block_flaw message uses.Numbers place start bytes = flaw_unless (is_some (packed_numbers bytes)) place
+block_flaw message uses.Text place start bytes = flaw_unless (is_utf8 bytes) place
 block_flaw message uses.Bytes place start bytes = None
 block_flaw message (uses.Message shape) place start bytes = message shape place start bytes
 

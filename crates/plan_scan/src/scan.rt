@@ -2,7 +2,7 @@
 ghost use Rattle.std.specs.Prelude.{◌≡◌, ◌<◌, ◌≤◌, ◌+◌, ◌^◌, length};
 ghost use Rattle.std.specs.Str.{is_utf8};
 ghost use Rattle.pb_wire.specs.Seen.{block_len};
-ghost use Rattle.plan_scan.specs.Flaw.{flaw, message_flaw, unless};
+ghost use Rattle.plan_scan.specs.Flaw.{flaw, flaw_unless, message_flaw};
 ghost use Rattle.plan_scan.specs.Seen.{found_flaw};
 
 use crate::flaw::Flaw;
@@ -64,8 +64,8 @@ fn record_flaw(
     };
     let place = start + found.place;
     match use_of_field(shape, found.number) {
-        Use::Text => unless_well(is_text(block), place),
-        Use::Numbers => unless_well(Packed::new(block).is_some(), place),
+        Use::Text => flaw_unless(is_text(block), place),
+        Use::Numbers => flaw_unless(Packed::new(block).is_some(), place),
         Use::Message(inner) => first_flaw(
             levels,
             inner,
@@ -77,8 +77,8 @@ fn record_flaw(
     }
 }
 
-fn unless_well(well: bool, place: usize) -> Option<Flaw>
-    ensures { result ≡ unless well place }
+fn flaw_unless(well: bool, place: usize) -> Option<Flaw>
+    ensures { result ≡ flaw_unless well place }
 {
     if well {
         None
