@@ -10,7 +10,7 @@ use Rattle.table_rows.proofs.KindLaws.{all_known, kinds_are, kinds_sound}
 use Rattle.table_rows.proofs.piece.read_piece.Goals as goal
 
 pub read_block-requires-clause-wanted : goal.read_block-requires-clause-wanted
-read_block-requires-clause-wanted g c κs within = all_known c.args.head.now.schema.columns c.args.wanted.now c.args.read.now.types.now c.requires.wanted
+read_block-requires-clause-wanted g c = all_known c.args.head.now.schema.columns c.args.wanted.now c.args.read.now.types.now c.requires.wanted
 
 pub bad_piece-requires : goal.bad_piece-requires
 bad_piece-requires g c = kinds_sound c.args.head.now.schema.columns c.args.wanted.now c.args.read.now.types.now c.args.head.now.shapes c.requires.wanted
