@@ -8,7 +8,7 @@ use Rattle.arrow_meta.specs.declared.columns.Schema.{Schema}
 use Rattle.arrow_meta.specs.declared.field.FieldMeta.{FieldMeta}
 use Rattle.arrow_meta.specs.declared.meta.Block.{Block}
 use Rattle.arrow_meta.specs.declared.meta.RecordMeta.{RecordMeta}
-use Rattle.arrow_meta.specs.declared.footer_reading.FieldRead.{FieldRead}
+use Rattle.arrow_meta.specs.declared.read.footer.FieldRead.{FieldRead}
 use Rattle.sub_types.specs.ResultSteps.{◌>>=◌, collect}
 use Rattle.arrow_meta.specs.Footer.{Field, Footer, each_of, field_at, columns_from}
 use Rattle.arrow_meta.specs.Message.{DictionaryMeta}

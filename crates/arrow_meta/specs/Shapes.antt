@@ -7,8 +7,8 @@ use Rattle.arrow_meta.specs.declared.error.MetaError.{MetaError}
 use Rattle.arrow_meta.specs.declared.field.Layout.TheVariants as layouts
 use Rattle.arrow_meta.specs.declared.field.Shape.{Shape}
 use Rattle.arrow_meta.specs.declared.field.Shape.TheVariants.{Known, Skip}
-use Rattle.arrow_meta.specs.declared.shape.IntType.{IntType}
-use Rattle.arrow_meta.specs.declared.shape.Encoding.{Encoding}
+use Rattle.arrow_meta.specs.declared.read.shape.IntType.{IntType}
+use Rattle.arrow_meta.specs.declared.read.shape.Encoding.{Encoding}
 use Rattle.arrow_meta.specs.Looked.{looked, number_in, table_in}
 use Rattle.sub_types.specs.ResultSteps.{◌>>=◌}
 

@@ -4,28 +4,16 @@
 //! `Dictionary.antt`, columns in `Values.antt`.
 #![tactic(auto)]
 
-mod block;
 mod columns;
 mod error;
 mod field;
-mod footer;
-mod footer_reading;
-mod look;
-mod message;
-mod message_reading;
 mod meta;
-mod record;
-mod schema;
-mod shape;
-mod structs;
-mod types;
+mod read;
+mod write;
 
 pub use columns::{Columns, Schema};
 pub use error::MetaError;
 pub use field::{FieldMeta, Layout, Shape};
-pub use footer::write_footer;
-pub use footer_reading::read_footer;
-pub use message::write_schema_message;
-pub use message_reading::{read_dictionary, read_message};
 pub use meta::{Block, Pairs, RecordMeta};
-pub use record::write_record_message;
+pub use read::{read_dictionary, read_footer, read_message};
+pub use write::{write_footer, write_record_message, write_schema_message};
