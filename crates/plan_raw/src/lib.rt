@@ -1,4 +1,4 @@
-//! The untyped tree of a plan's messages, with copies of it.
+//! The untyped tree of a plan's messages, with copies of it. A read by its parts is in `specs/`, for definitions above.
 #![tactic(auto)]
 
 mod aggregate;
