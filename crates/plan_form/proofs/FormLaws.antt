@@ -6,7 +6,8 @@ use Rattle.std.proofs.lemmas.List.Sums.{AllPass-from_list_all}
 use Rattle.sub_types.specs.declared.kind.Ty.{Ty}
 use Rattle.sub_types.specs.declared.value.Value.{Value}
 use Rattle.plan_leaves.specs.declared.types.RawType.{RawType}
-use Rattle.plan_raw.specs.declared.source.VirtualTable.{VirtualTable, out-VirtualTable}
+use Rattle.plan_raw.specs.declared.source.VirtualTable.{VirtualTable}
+use Rattle.plan_raw.specs.Read.{literal_rows, expression_rows}
 use Rattle.plan_form.specs.Form.{MAX_COLUMNS, MAX_NAMES, is_within, is_empty, is_required_i64, row_of, table_rows}
 use Rattle.plan_form.specs.Rows.{values_in, AreRows}
 use Rattle.sub_types.specs.OptionSteps.{all_of}
@@ -38,18 +39,18 @@ within-parts names columns types holds =
 -- what is known of a virtual table of the form
 pub record IsTable (types : List Ty) (table : VirtualTable) : Type 0 where
   pub whole : list_all is_required_i64 types ≡ true
-  pub rows_are : AreRows (length types) (out-VirtualTable table).values
-  pub found : table_rows types table ≡ Some (map values_in (out-VirtualTable table).values)
+  pub rows_are : AreRows (length types) (literal_rows table)
+  pub found : table_rows types table ≡ Some (map values_in (literal_rows table))
 
 pub table-found : (types : List Ty) (table : VirtualTable) → is_some (table_rows types table) ≡ true → IsTable types table
 table-found types table is =
-    let rows = (out-VirtualTable table).values in
-    let test = is_empty (out-VirtualTable table).expressions && list_all is_required_i64 types in
+    let rows = literal_rows table in
+    let test = is_empty (expression_rows table) && list_all is_required_i64 types in
     let all : Option (List (List Value)) = all_of (map (row_of (length types)) rows) in
     let parts = when_parts test all is in
     let are : AreRows (length types) rows = AllPass-from_list_all (λ row. is_some (row_of (length types) row)) rows (sym (is_some-all_of (row_of (length types)) rows) ∙ parts.1) in
     record {
-      whole = (and_parts (is_empty (out-VirtualTable table).expressions) (list_all is_required_i64 types) parts.0).1;
+      whole = (and_parts (is_empty (expression_rows table)) (list_all is_required_i64 types) parts.0).1;
       rows_are = are;
       found = when_true test all parts.0 ∙ rows-found (length types) rows are;
     }

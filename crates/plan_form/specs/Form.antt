@@ -15,12 +15,13 @@ use Rattle.plan_leaves.specs.declared.types.RawType.{RawType}
 use Rattle.plan_leaves.specs.declared.types.RawType.TheVariants as types
 use Rattle.plan_leaves.specs.declared.schema.NamedStruct.{NamedStruct}
 use Rattle.plan_leaves.specs.declared.literal.LiteralRow.{LiteralRow}
-use Rattle.plan_raw.specs.declared.source.VirtualTable.{VirtualTable, out-VirtualTable}
-use Rattle.plan_raw.specs.declared.source.RawSource.{RawSource, out-RawSource}
+use Rattle.plan_raw.specs.declared.source.VirtualTable.{VirtualTable}
+use Rattle.plan_raw.specs.declared.source.RawSource.{RawSource}
+use Rattle.plan_raw.specs.declared.source.RawSource as sources
 use Rattle.plan_leaves.specs.declared.common.RelCommon.{RelCommon}
 use Rattle.plan_leaves.specs.declared.common.RelCommon.TheVariants as commons
-use Rattle.plan_raw.specs.declared.rel.RawRel.{RawRel, out-RawRel}
-use Rattle.plan_raw.specs.declared.argument.FunctionArgument.TheOpen.{RawRel-F, RawSource-F}
+use Rattle.plan_raw.specs.declared.rel.RawRel.{RawRel}
+use Rattle.plan_raw.specs.Read.{read_of, literal_rows, expression_rows}
 use Rattle.sub_types.specs.OptionSteps.{◌>>=◌, when, all_of}
 
 -- the most columns
@@ -94,21 +95,19 @@ literal_of _ = None
 abbrev pub row_of : ℕ → LiteralRow → Option (List Value)
 row_of width row = when (length row.fields == width) (all_of (map literal_of row.fields))
 
--- the rows of a virtual table without expressions
+-- the rows of a virtual table without expressions, whose columns are required 64-bit whole numbers
 abbrev pub table_rows : List Ty → VirtualTable → Option (List (List Value))
 table_rows types table =
-    when (is_empty (out-VirtualTable table).expressions && list_all is_required_i64 types)
-    (all_of (map (row_of (length types)) (out-VirtualTable table).values))
+    when (is_empty (expression_rows table) && list_all is_required_i64 types)
+    (all_of (map (row_of (length types)) (literal_rows table)))
 
 -- a named table, or the rows of a virtual one
 abbrev pub source_of : List Ty → RawSource → Option Source
-source_of types source = elim (out-RawSource source) [
-  | RawSource-F.VirtualTable table ↦ do
-    rows ← table_rows types table
-    Some (Rows rows)
-  | RawSource-F.NamedTable table ↦ when (not (is_empty table.names)) (Some (Named (join_with_byte 46 table.names)))
-  | _ ↦ None
-]
+source_of types (sources.VirtualTable table) = do
+  rows ← table_rows types table
+  Some (Rows rows)
+source_of types (sources.NamedTable table) = when (not (is_empty table.names)) (Some (Named (join_with_byte 46 table.names)))
+source_of types _ = None
 
 -- no emit
 abbrev pub is_direct : Option RelCommon → Bool
@@ -128,14 +127,12 @@ form_over names schema source = do
   found ← source_of types source
   Some (record { names = names; columns = schema.names; types = types; source = found })
 
--- a plain read
+-- the form of a relation: a read without an emit, a filter and a projection
 unfoldable pub read_form : List (List ℕ) → RawRel → Option Form
-read_form names rel = elim (out-RawRel rel) [
-  | RawRel-F.Read common base_schema filter projection source best_effort_filter ↦ do
-    schema ← when (is_direct common && is_none filter && is_none projection) base_schema
-    form_over names schema source
-  | _ ↦ None
-]
+read_form names rel = do
+  read ← read_of rel
+  schema ← when (is_direct read.common && is_none read.filter && is_none read.projection) read.base_schema
+  form_over names schema read.source
 
 -- a plan of one root, whose input is such a read
 unfoldable pub form_of : PlanTree → Option Form

@@ -1,6 +1,6 @@
 //! The untyped tree of a plan's messages: relations, expressions and plans as they are written, with copies of
-//! them. It stands on `plan_leaves`. A tree is its own meaning, as data; which tree a plan's bytes have is defined
-//! in `plan_parts/specs/Reader.antt`.
+//! them. It stands on `plan_leaves`. A tree is its own meaning, as data, and a read by its parts is in
+//! `specs/Read.antt`; which tree a plan's bytes have is defined in `plan_parts/specs/Reader.antt`.
 #![tactic(auto)]
 
 mod aggregate;
