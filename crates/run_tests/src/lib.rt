@@ -1,4 +1,4 @@
-//! Tests of the command `run`: plans, Arrow files and folders in memory, and what a run answers and leaves.
+//! Tests of the command `run` for what no worked case can show: what a run reports, and a text of a megabyte.
 #![tactic(auto)]
 
 #[cfg(test)]

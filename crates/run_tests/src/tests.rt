@@ -1,11 +1,6 @@
-// Runs over virtual and named tables, and what is refused or fails.
-mod faults;
+// What runs over folders in memory report and refuse.
+mod answered;
 mod files;
-mod outcome;
 mod plans;
-mod reading;
-mod refusals;
-mod run;
-mod unreadable;
-mod worked;
-mod written;
+mod report;
+mod texts;

@@ -1,53 +1,36 @@
-// Plans, encoded by hand from the messages of Substrait.
-// The required column x of whole numbers of the table t, named x.
+// Plans, encoded by hand from the messages of Substrait. Each has one required column x of whole numbers, or of texts.
+// A virtual table of the rows 1, 2 and -1.
+pub(super) const THREE_ROWS: &str = "\
+    1A3312310A2C0A2A120B0A017812060A043A0210022A1B0A040A0238010A040A0238020A0D0A0B38FFFFFFFFFFFFFFFF\
+    FF01120178\
+    ";
+
+// The same without rows.
+pub(super) const NO_ROWS: &str = "\
+    1A1812160A110A0F120B0A017812060A043A0210022A00120178\
+    ";
+
+// What stands before 1,025 rows of a virtual table,
+pub(super) const MANY_ROWS_HEAD: &str = "\
+    1AA230129F300A99300A9630120B0A017812060A043A0210022A8630\
+    ";
+
+// each of them,
+pub(super) const ROW: &str = "\
+    0A040A023801\
+    ";
+
+// and what stands behind them.
+pub(super) const MANY_ROWS_TAIL: &str = "\
+    120178\
+    ";
+
+// The column x of the table t.
 pub(super) const X_OF_T: &str = "\
     1A1B12190A140A12120B0A017812060A043A0210023A030A0174120178\
     ";
 
-// The same column of the table a.b.
-pub(super) const X_OF_A_B: &str = "\
-    1A1E121C0A170A15120B0A017812060A043A0210023A060A01610A0162120178\
-    ";
-
-// A column y of the table t.
-pub(super) const Y_OF_T: &str = "\
-    1A1B12190A140A12120B0A017912060A043A0210023A030A0174120179\
-    ";
-
-// A column x of texts of the table t.
+// The same of texts.
 pub(super) const TEXT_X_OF_T: &str = "\
     1A1B12190A140A12120B0A017812060A04620210013A030A0174120178\
-    ";
-
-// The three rows in two records of virtual_table, which are merged.
-pub(super) const TABLE_IN_TWO_PARTS: &str = "\
-    1A3512330A2E0A2C120B0A017812060A043A0210022A060A040A0238012A150A040A0238020A0D0A0B38FFFFFFFFFFFF\
-    FFFFFF01120178\
-    ";
-
-// A column of each of the ten kinds of the table t, renamed by the root.
-pub(super) const ALL_KINDS_OF_T: &str = "\
-    1ABB0112B8010A81010A7F12780A04666C61670A026E380A036E31360A036E33320A036E36340A046E616D650A037261\
-    770A036461790A0261740A05707269636512420A040A0210010A04120210010A041A0210010A042A0210010A043A0210\
-    020A04620210010A046A0210010A0582010210010A04720210010A09C201060802100920013A030A01741204464C4147\
-    12024E3812034E313612034E333212034E363412044E414D45120352415712034441591202415412055052494345\
-    ";
-
-// The column n of the table t.
-pub(super) const N_OF_T: &str = "\
-    1A1B12190A140A12120B0A016E12060A043A0210013A030A017412016E\
-    ";
-
-// The column d of decimals of three digits of the table t.
-pub(super) const D_OF_T: &str = "\
-    1A20121E0A190A1712100A0164120B0A09C201060801100320013A030A0174120164\
-    ";
-
-// Relations, root, input, and then filter and input in turn, each around the next: the last is empty, and begins a message at depth 101.
-pub(super) const TOO_DEEP: &str = "\
-    1AE90112E6010AE30112E00112DD0112DA0112D70112D40112D10112CE0112CB0112C80112C50112C20112BF0112BC01\
-    12B90112B60112B30112B00112AD0112AA0112A70112A40112A101129E01129B01129801129501129201128F01128C01\
-    128901128601128301128001127E127C127A12781276127412721270126E126C126A12681266126412621260125E125C\
-    125A12581256125412521250124E124C124A12481246124412421240123E123C123A12381236123412321230122E122C\
-    122A12281226122412221220121E121C121A12181216121412121210120E120C120A12081206120412021200\
     ";

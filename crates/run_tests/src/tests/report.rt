@@ -1,0 +1,92 @@
+// What a run reports: its rows, and the receipts of its workers.
+use super::answered::{answered, put, repeated};
+use super::files::THREE_ROW_FILE;
+use super::plans::{MANY_ROWS_HEAD, MANY_ROWS_TAIL, NO_ROWS, ROW, THREE_ROWS, X_OF_T};
+use run_core::Receipt;
+use run_top::{PipeReceipt, Status};
+use std::alloc::Global;
+use std::test::Fail;
+use world::MemFolder;
+
+// The rows of a report with one receipt, its batches and its workers.
+type Counts = (u64, u64, usize);
+
+fn counts_of(status: &Status) -> Option<Counts> {
+    let receipt = receipt_of(status)?;
+    let Status::Ok(report) = status else {
+        return None;
+    };
+    Some((report.rows, receipt.batches, receipt.workers.len()))
+}
+
+// The only receipt of a report.
+fn receipt_of(status: &Status) -> Option<&PipeReceipt> {
+    let Status::Ok(report) = status else {
+        return None;
+    };
+    match report.receipts.as_slice() {
+        [receipt] if receipt.relation == 0 => Some(receipt),
+        _ => None,
+    }
+}
+
+// A folder with plans of virtual tables, `p`, `e` and `m`, a plan over the table `t`, `x`, and a file of three rows, `g`.
+fn folder_of(alloc: Global) -> Result<MemFolder, Fail> {
+    let mut folder = MemFolder::new(alloc);
+    put(alloc, &mut folder, "p", THREE_ROWS)?;
+    put(alloc, &mut folder, "e", NO_ROWS)?;
+    put(alloc, &mut folder, "x", X_OF_T)?;
+    put(alloc, &mut folder, "g", THREE_ROW_FILE)?;
+    let many = repeated(alloc, MANY_ROWS_HEAD, ROW, 1_025, MANY_ROWS_TAIL)?;
+    folder.put_file("m", &many)?;
+    Ok(folder)
+}
+
+#[test]
+fn rows_batches_and_workers(rt: HostRuntime) -> Result<(), Fail> {
+    let mut folder = folder_of(rt.alloc())?;
+    let runs: [(&[&str], Counts); 6] = [
+        (&["run", "p", "o", "1"], (3, 1, 1)),
+        (&["run", "p", "o", "64"], (3, 1, 64)),
+        (&["run", "e", "o", "1"], (0, 0, 1)),
+        (&["run", "x", "o", "3", "t=g", "t=g"], (6, 2, 3)),
+        (&["run", "m", "n", "2"], (1_025, 2, 2)),
+        // the two batches that were written by the run before, and one of another file
+        (&["run", "x", "o", "3", "t=n", "t=g"], (1_028, 3, 3)),
+    ];
+    for (words, counts) in runs {
+        let answered = answered(&rt, rt.alloc(), &mut folder, words)?;
+        assert!(rt; counts_of(&answered.status) == Some(counts));
+    }
+    Ok(())
+}
+
+// The first worker claimed and finished two batches, in order, and nothing else was done or left.
+fn is_of_the_first_worker(receipt: &PipeReceipt) -> bool {
+    let [first, others @ ..] = receipt.workers.as_slice() else {
+        return false;
+    };
+    let numbers = [0, 1].as_slice();
+    first.claimed.as_slice() == numbers
+        && first.finished.as_slice() == numbers
+        && first.offered.is_empty()
+        && first.taken.is_empty()
+        && others.iter().all(did_nothing)
+        && receipt.left.is_empty()
+}
+
+fn did_nothing(worker: &Receipt) -> bool {
+    worker.claimed.is_empty()
+        && worker.offered.is_empty()
+        && worker.taken.is_empty()
+        && worker.finished.is_empty()
+}
+
+#[test]
+fn receipts_of_two_batches(rt: HostRuntime) -> Result<(), Fail> {
+    let mut folder = folder_of(rt.alloc())?;
+    let words = ["run", "x", "o", "3", "t=g", "t=g"];
+    let answered = answered(&rt, rt.alloc(), &mut folder, &words)?;
+    assert!(rt; receipt_of(&answered.status).is_some_and(is_of_the_first_worker));
+    Ok(())
+}
