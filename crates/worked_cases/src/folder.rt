@@ -60,6 +60,8 @@ impl Folder for CountingFolder {
 
     ghost write_faults = { λ counting. counting.inner.write_faults };
 
+    ghost lent = { λ counting. counting.inner.lent };
+
     fn reader(&mut self, alloc: Global, name: &str) -> Result<Option<MemReader>, FolderError> {
         let found = self.inner.reader(alloc, name)?;
         if found.is_some() {

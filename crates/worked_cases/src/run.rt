@@ -1,7 +1,7 @@
 // Runs a case over folders in memory, and compares what comes with what is expected.
 use crate::case::{Case, Failure, NamedFile};
 use crate::folder::CountingFolder;
-use run_top::{exit_number, run_main};
+use run_top::{command_main, exit_number};
 use std::alloc::Global;
 use std::marker::Sync;
 use std::sync::Wait;
@@ -236,7 +236,7 @@ fn run_words<H: Threads + Wait + Sync>(
 ) -> Result<Outcome, NoMemory> {
     let mut folder = folder;
     let mut notes = MemNotes::new(alloc);
-    let status = run_main(rt, alloc, words, &mut folder, &mut notes, &OpenGate);
+    let status = command_main(rt, alloc, words, &mut folder, &mut notes, &OpenGate);
     Ok(Outcome {
         text: notes.text().to_vec(alloc)?,
         number: exit_number(&status),

@@ -1,11 +1,11 @@
 // What a run reports: its rows, and the receipts of its workers.
 use super::answered::{answered, put, repeated};
-use super::files::THREE_ROW_FILE;
-use super::plans::{MANY_ROWS_HEAD, MANY_ROWS_TAIL, NO_ROWS, ROW, THREE_ROWS, X_OF_T};
+use super::plans::{MANY_ROWS_HEAD, MANY_ROWS_TAIL, NO_ROWS, ROW, X_OF_T};
 use run_core::Receipt;
 use run_top::{PipeReceipt, Status};
 use std::alloc::Global;
 use std::test::Fail;
+use test_bytes::{THREE_ROWS_FILE, THREE_ROWS_PLAN};
 use world::MemFolder;
 
 // The rows of a report with one receipt, its batches and its workers.
@@ -33,10 +33,10 @@ fn receipt_of(status: &Status) -> Option<&PipeReceipt> {
 // A folder with plans of virtual tables, `p`, `e` and `m`, a plan over the table `t`, `x`, and a file of three rows, `g`.
 fn folder_of(alloc: Global) -> Result<MemFolder, Fail> {
     let mut folder = MemFolder::new(alloc);
-    put(alloc, &mut folder, "p", THREE_ROWS)?;
+    folder.put_file("p", &THREE_ROWS_PLAN)?;
     put(alloc, &mut folder, "e", NO_ROWS)?;
     put(alloc, &mut folder, "x", X_OF_T)?;
-    put(alloc, &mut folder, "g", THREE_ROW_FILE)?;
+    folder.put_file("g", &THREE_ROWS_FILE)?;
     let many = repeated(alloc, MANY_ROWS_HEAD, ROW, 1_025, MANY_ROWS_TAIL)?;
     folder.put_file("m", &many)?;
     Ok(folder)

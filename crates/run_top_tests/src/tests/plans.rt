@@ -1,11 +1,5 @@
 // Plans, encoded by hand from the messages of Substrait. Each has one required column x of whole numbers, or of texts.
-// A virtual table of the rows 1, 2 and -1.
-pub(super) const THREE_ROWS: &str = "\
-    1A3312310A2C0A2A120B0A017812060A043A0210022A1B0A040A0238010A040A0238020A0D0A0B38FFFFFFFFFFFFFFFF\
-    FF01120178\
-    ";
-
-// The same without rows.
+// A virtual table without rows.
 pub(super) const NO_ROWS: &str = "\
     1A1812160A110A0F120B0A017812060A043A0210022A00120178\
     ";
