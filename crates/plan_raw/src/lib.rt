@@ -1,4 +1,5 @@
-//! The untyped tree of a plan's messages, with copies of it. A read by its parts is in `specs/`, for definitions above.
+//! The untyped tree of a plan's messages, with copies of it. For definitions above, `specs/` has a read by its parts, and what
+//! a relation gives by one step for each kind of message.
 #![tactic(auto)]
 
 mod aggregate;
