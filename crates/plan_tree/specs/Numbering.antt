@@ -3,83 +3,134 @@
 use Rattle.std.specs.Prelude.{ℕ, ◌+◌, List, [], ◌∷◌, ◌++◌, Option, sum, map, unwrap_or}
 use Rattle.std.specs.List.{concat}
 use Rattle.std.specs.Option.{option_to_list}
-use Rattle.plan_raw.specs.declared.argument.FunctionArgument.TheOpen.{FunctionArgument-F, RawExpr-F, RawCount-F, RawOffset-F, RawRel-F, RawSource-F}
-use Rattle.plan_raw.specs.declared.rel.RawRel.{RawRel, fold-RawRel, out-RawRel}
-use Rattle.plan_raw.specs.declared.expr.RawExpr.{RawExpr}
-use Rattle.plan_raw.specs.declared.rel.RawCount.{RawCount}
-use Rattle.plan_raw.specs.declared.rel.RawOffset.{RawOffset}
-use Rattle.plan_raw.specs.declared.expr.IfClause.{IfClause}
-use Rattle.plan_raw.specs.declared.expr.IfValue.{IfValue}
-use Rattle.plan_raw.specs.declared.source.RawSource.{RawSource}
-use Rattle.plan_raw.specs.declared.source.ExprRow.{ExprRow}
-use Rattle.plan_raw.specs.declared.source.VirtualTable.{VirtualTable}
-use Rattle.plan_raw.specs.declared.argument.FunctionArgument.{FunctionArgument}
-use Rattle.plan_raw.specs.declared.aggregate.AggregateFunction.{AggregateFunction}
-use Rattle.plan_raw.specs.declared.aggregate.Grouping.{Grouping}
-use Rattle.plan_raw.specs.declared.aggregate.Measure.{Measure}
-use Rattle.plan_raw.specs.declared.aggregate.SortField.{SortField}
+use Rattle.plan_raw.specs.declared.aggregate.AggregateFunction.{AggregateFunction-F}
+use Rattle.plan_raw.specs.declared.aggregate.Grouping.{Grouping-F}
+use Rattle.plan_raw.specs.declared.aggregate.Measure.{Measure-F}
+use Rattle.plan_raw.specs.declared.aggregate.SortField.{SortField-F}
+use Rattle.plan_raw.specs.declared.argument.FunctionArgument.{FunctionArgument-F}
+use Rattle.plan_raw.specs.declared.expr.IfClause.{IfClause-F}
+use Rattle.plan_raw.specs.declared.expr.IfValue.{IfValue-F}
+use Rattle.plan_raw.specs.declared.expr.RawExpr.{RawExpr-F}
+use Rattle.plan_raw.specs.declared.rel.RawCount.{RawCount-F}
+use Rattle.plan_raw.specs.declared.rel.RawOffset.{RawOffset-F}
+use Rattle.plan_raw.specs.declared.rel.RawRel.{RawRel, RawRel-F, out-RawRel}
+use Rattle.plan_raw.specs.declared.source.ExprRow.{ExprRow-F}
+use Rattle.plan_raw.specs.declared.source.RawSource.{RawSource-F}
+use Rattle.plan_raw.specs.declared.source.VirtualTable.{VirtualTable-F}
+use Rattle.plan_tree.specs.Fold.{Level, Opened, With, Steps, fold_relation}
 use Rattle.plan_typed.specs.declared.rel.Rel.{Rel, fold-Rel}
 use Rattle.plan_typed.specs.declared.rel.Op.TheOpen.{Op-F}
 
--- none where nothing is there
+-- one level of a message, with the number of relations in each message inside it in that message's place
+abbrev pub Counted : Level → Type 0
+Counted Message = With ℕ Message
+
+-- none in a message that is absent
 abbrev pub held : Option ℕ → ℕ
 held count = unwrap_or count 0
 
--- One level each, with the number of relations in each message inside it in the message's place.
-abbrev pub argument_step : FunctionArgument-F ℕ ℕ ℕ ℕ ℕ ℕ ℕ ℕ ℕ ℕ ℕ ℕ ℕ ℕ → ℕ
-argument_step (FunctionArgument-F.Value value) = value
-argument_step _ = 0
+-- the relations in an argument of a function
+abbrev pub in_argument : Counted FunctionArgument-F → ℕ
+in_argument (FunctionArgument-F.Value value) = value
+in_argument _ = 0
 
-abbrev pub expression_step : RawExpr-F ℕ ℕ ℕ ℕ ℕ ℕ ℕ ℕ ℕ ℕ ℕ ℕ ℕ ℕ → ℕ
-expression_step (RawExpr-F.ScalarFunction reference output arguments options) = sum arguments
-expression_step (RawExpr-F.IfThen ifs other) = sum ifs + held other
-expression_step (RawExpr-F.SwitchExpression ifs other subject) = held subject + sum ifs + held other
-expression_step (RawExpr-F.SingularOrList value options) = held value + sum options
-expression_step (RawExpr-F.Cast ty input failure) = held input
-expression_step (RawExpr-F.Scalar input) = held input
-expression_step (RawExpr-F.InPredicate needles haystack) = sum needles + held haystack
-expression_step (RawExpr-F.SetPredicate op tuples) = held tuples
-expression_step _ = 0
+-- those in a clause of an if-then
+abbrev pub in_clause : Counted IfClause-F → ℕ
+in_clause clause = held clause.if_ + held clause.«then»
 
-abbrev pub count_step : RawCount-F ℕ ℕ ℕ ℕ ℕ ℕ ℕ ℕ ℕ ℕ ℕ ℕ ℕ ℕ → ℕ
-count_step (RawCount-F.CountExpr expr) = expr
-count_step _ = 0
+-- those in a value of a switch, whose own literal has none
+abbrev pub in_value : Counted IfValue-F → ℕ
+in_value value = held value.«then»
 
-abbrev pub offset_step : RawOffset-F ℕ ℕ ℕ ℕ ℕ ℕ ℕ ℕ ℕ ℕ ℕ ℕ ℕ ℕ → ℕ
-offset_step (RawOffset-F.OffsetExpr expr) = expr
-offset_step _ = 0
+-- those in an expression: a subquery's relation, and those in the expressions inside it
+abbrev pub in_expression : Counted RawExpr-F → ℕ
+in_expression (RawExpr-F.ScalarFunction reference output arguments options) = sum arguments
+in_expression (RawExpr-F.IfThen ifs other) = sum ifs + held other
+in_expression (RawExpr-F.SwitchExpression ifs other subject) = held subject + sum ifs + held other
+in_expression (RawExpr-F.SingularOrList value options) = held value + sum options
+in_expression (RawExpr-F.Cast ty input failure) = held input
+in_expression (RawExpr-F.Scalar input) = held input
+in_expression (RawExpr-F.InPredicate needles haystack) = sum needles + held haystack
+in_expression (RawExpr-F.SetPredicate op tuples) = held tuples
+in_expression _ = 0
 
-abbrev pub source_step : RawSource-F ℕ ℕ ℕ ℕ ℕ ℕ ℕ ℕ ℕ ℕ ℕ ℕ ℕ ℕ → ℕ
-source_step (RawSource-F.VirtualTable table) = table
-source_step _ = 0
+-- those in a row of expressions
+abbrev pub in_row : Counted ExprRow-F → ℕ
+in_row row = sum row.fields
 
--- a relation counts itself; its best-effort filter isn't checked
-abbrev pub relation_step : RawRel-F ℕ ℕ ℕ ℕ ℕ ℕ ℕ ℕ ℕ ℕ ℕ ℕ ℕ ℕ → ℕ
-relation_step (RawRel-F.Read common schema filter projection source best_effort_filter) = 1 + source + held filter
-relation_step (RawRel-F.Filter common input condition) = 1 + held input + held condition
-relation_step (RawRel-F.Fetch common input offset count) = 1 + held input + offset + count
-relation_step (RawRel-F.Aggregate common input groupings measures exprs) = 1 + held input + sum groupings + sum exprs + sum measures
-relation_step (RawRel-F.Sort common input sorts) = 1 + held input + sum sorts
-relation_step (RawRel-F.Join common left right condition post_join_filter type) = 1 + held left + held right + held condition + held post_join_filter
-relation_step (RawRel-F.Project common input exprs) = 1 + held input + sum exprs
-relation_step (RawRel-F.Set common inputs op) = 1 + sum inputs
-relation_step (RawRel-F.Cross common left right) = 1 + held left + held right
-relation_step _ = 1
+-- those in a virtual table, whose literals have none
+abbrev pub in_table : Counted VirtualTable-F → ℕ
+in_table table = sum table.expressions
+
+-- those in what a read reads
+abbrev pub in_source : Counted RawSource-F → ℕ
+in_source (RawSource-F.VirtualTable table) = table
+in_source _ = 0
+
+-- those in a fetch's offset
+abbrev pub in_offset : Counted RawOffset-F → ℕ
+in_offset (RawOffset-F.OffsetExpr expr) = expr
+in_offset _ = 0
+
+-- those in a fetch's count
+abbrev pub in_count : Counted RawCount-F → ℕ
+in_count (RawCount-F.CountExpr expr) = expr
+in_count _ = 0
+
+-- those in a grouping
+abbrev pub in_grouping : Counted Grouping-F → ℕ
+in_grouping grouping = sum grouping.grouping_expressions
+
+-- those in a sort key
+abbrev pub in_sort : Counted SortField-F → ℕ
+in_sort sort = held sort.expr
+
+-- those in an aggregate function
+abbrev pub in_function : Counted AggregateFunction-F → ℕ
+in_function function = sum function.sorts + sum function.arguments
+
+-- those in a measure
+abbrev pub in_measure : Counted Measure-F → ℕ
+in_measure measure = held measure.filter + held measure.measure
+
+-- those in a relation, which counts itself; its best-effort filter isn't checked
+abbrev pub in_relation : Counted RawRel-F → ℕ
+in_relation (RawRel-F.Read common schema filter projection source best_effort_filter) = 1 + source + held filter
+in_relation (RawRel-F.Filter common input condition) = 1 + held input + held condition
+in_relation (RawRel-F.Fetch common input offset count) = 1 + held input + offset + count
+in_relation (RawRel-F.Aggregate common input groupings measures exprs) = 1 + held input + sum groupings + sum exprs + sum measures
+in_relation (RawRel-F.Sort common input sorts) = 1 + held input + sum sorts
+in_relation (RawRel-F.Join common left right condition post_join_filter type) = 1 + held left + held right + held condition + held post_join_filter
+in_relation (RawRel-F.Project common input exprs) = 1 + held input + sum exprs
+in_relation (RawRel-F.Set common inputs op) = 1 + sum inputs
+in_relation (RawRel-F.Cross common left right) = 1 + held left + held right
+in_relation _ = 1
+
+-- the relations in each message
+abbrev pub counts : Steps ℕ
+counts = record {
+  argument = in_argument;
+  expression = in_expression;
+  count = in_count;
+  offset = in_offset;
+  relation = in_relation;
+  source = in_source;
+  function = in_function;
+  grouping = in_grouping;
+  measure = in_measure;
+  sort = in_sort;
+  clause = in_clause;
+  value = in_value;
+  row = in_row;
+  table = in_table;
+}
 
 -- how many relations a relation holds: itself, and those below it and in its subqueries
 abbrev pub relation_count : RawRel → ℕ
-relation_count = fold-RawRel ℕ ℕ ℕ ℕ ℕ ℕ ℕ ℕ ℕ ℕ ℕ ℕ ℕ ℕ
-    argument_step expression_step count_step offset_step relation_step source_step
-    (λ function. sum function.sorts + sum function.arguments) (λ grouping. sum grouping.grouping_expressions)
-    (λ measure. held measure.filter + held measure.measure) (λ sort. held sort.expr)
-    (λ clause. held clause.if_ + held clause.«then») (λ value. held value.«then»)
-    (λ row. sum row.fields) (λ table. sum table.expressions)
+relation_count rel = fold_relation counts rel
 
--- one level of a relation, as `out-RawRel` opens it
-abbrev pub Layer : Type 0
-Layer = RawRel-F FunctionArgument RawExpr RawCount RawOffset RawRel RawSource AggregateFunction Grouping Measure SortField IfClause IfValue ExprRow VirtualTable
-
-abbrev pub inputs_in : Layer → List RawRel
+-- the inputs at one level of a relation, from left to right
+abbrev pub inputs_in : Opened RawRel-F → List RawRel
 inputs_in (RawRel-F.Filter common input condition) = option_to_list input
 inputs_in (RawRel-F.Fetch common input offset count) = option_to_list input
 inputs_in (RawRel-F.Aggregate common input groupings measures exprs) = option_to_list input
@@ -90,7 +141,7 @@ inputs_in (RawRel-F.Set common inputs op) = inputs
 inputs_in (RawRel-F.Cross common left right) = option_to_list left ++ option_to_list right
 inputs_in _ = []
 
--- the inputs of a relation, from left to right
+-- the inputs of a relation
 abbrev pub inputs_of : RawRel → List RawRel
 inputs_of rel = inputs_in (out-RawRel rel)
 
