@@ -1,0 +1,13 @@
+//! The table of functions.
+#![tactic(auto)]
+
+mod kinds;
+mod line;
+mod look_up;
+mod options;
+mod row;
+mod table;
+
+pub use look_up::{find, has_name};
+pub use options::honours;
+pub use row::{Class, ResultRule, Row};
