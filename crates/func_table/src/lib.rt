@@ -2,12 +2,14 @@
 #![tactic(auto)]
 
 mod kinds;
+mod laws;
 mod line;
 mod look_up;
 mod options;
 mod row;
 mod table;
 
+pub use laws::one_row_fits;
 pub use look_up::{find, has_name};
 pub use options::honours;
 pub use row::{Class, ResultRule, Row};
