@@ -22,7 +22,7 @@ entry_seen line = record {
   class = line.class;
   arguments = arguments_seen line.params;
   alike = line.alike;
-  row = seen line.row
+  row = seen line.row;
 }
 
 abbrev pub choice_seen : MadeChoice → Choice

@@ -1,10 +1,10 @@
-// The short names of kinds.
+// The short names of kinds, and when kinds are the same or equal.
 ghost use Rattle.std.specs.Prelude.{◌≡◌};
 ghost use Rattle.func_table.specs.Kinds as spec;
 
 use sub_types::Kind;
 
-/// The short name of a kind.
+/// The short name of a kind, of which keys are made.
 pub(crate) fn short_name(kind: Kind) -> &'static str
     ensures { result.now ≡ spec.short_name kind }
 {
@@ -16,13 +16,13 @@ pub(crate) fn short_name(kind: Kind) -> &'static str
         Kind::I64 => "i64",
         Kind::Text => "str",
         Kind::Binary => "vbin",
-        Kind::Timestamp => "ts",
         Kind::Date => "date",
+        Kind::Timestamp => "ts",
         Kind::Decimal { .. } => "dec",
     }
 }
 
-/// Whether two kinds are equal but for the precision of decimals.
+/// Whether two kinds are equal, but for the precision of decimals.
 pub(crate) fn is_same(a: Kind, b: Kind) -> bool
     ensures { result ≡ spec.is_same a b }
 {

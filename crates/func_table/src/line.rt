@@ -1,4 +1,4 @@
-// The lines of the table of functions, and which calls they take.
+// The lines of the table of functions: its rows, with the calls that they take.
 ghost use Rattle.std.specs.Prelude.{◌≡◌, map};
 ghost use Rattle.std.specs.List.{list_all};
 ghost use Rattle.func_table.specs.Entry as spec;
@@ -20,7 +20,7 @@ pub(crate) enum Params {
 #[derive(Clone, Copy, Debug)]
 pub(crate) enum Alike {
     Free,
-    /// They are equal, but decimals may differ in their precision.
+    /// They are equal, but for the precision of decimals.
     Same,
     Equal,
 }
@@ -43,29 +43,27 @@ impl Line {
         self.file == file && self.row.name == name && self.class == class
     }
 
-    /// Whether it is of that function, at arguments of these kinds.
+    /// Whether the line is of that function, and takes arguments of these kinds.
     pub(crate) fn fits(&self, file: &str, name: &str, kinds: &[Kind], class: Class) -> bool
         ensures { result ≡ spec.fits file.now name.now kinds.now class (entry_seen self.now) }
     {
-        self.is_named(file, name, class)
-            && self.params.takes(kinds)
-            && self.alike.holds(kinds)
+        self.is_named(file, name, class) && self.params.take(kinds) && self.alike.all_agree(kinds)
     }
 }
 
 impl Params {
-    fn takes(self, kinds: &[Kind]) -> bool
+    fn take(self, kinds: &[Kind]) -> bool
         ensures { result ≡ spec.takes_kinds (arguments_seen self) kinds.now }
     {
         match self {
-            Params::Each(names) => take_each(names, kinds),
+            Params::Each(names) => each_takes(names, kinds),
             Params::AnyNumber(name) => takes_all(name, kinds),
             Params::OneOrMore(name) => !kinds.is_empty() && takes_all(name, kinds),
         }
     }
 }
 
-fn take_each(names: &[&str], kinds: &[Kind]) -> bool
+fn each_takes(names: &[&str], kinds: &[Kind]) -> bool
     ensures { result ≡ spec.takes_kinds (spec.Each (map (λ name. name.now) names.now)) kinds.now }
 {
     names.len() == kinds.len()
@@ -88,16 +86,16 @@ fn takes_kind(name: &str, kind: Kind) -> bool
 }
 
 impl Alike {
-    fn holds(self, kinds: &[Kind]) -> bool
-        ensures { result ≡ spec.are_alike self kinds.now }
+    fn all_agree(self, kinds: &[Kind]) -> bool
+        ensures { result ≡ spec.all_agree self kinds.now }
     {
         match kinds.split_first() {
             None => true,
-            Some((first, rest)) => self.holds_after(*first, rest),
+            Some((first, rest)) => self.agrees_with_all(*first, rest),
         }
     }
 
-    fn holds_after(self, first: Kind, rest: &[Kind]) -> bool
+    fn agrees_with_all(self, first: Kind, rest: &[Kind]) -> bool
         ensures { result ≡ list_all (spec.agree self first) rest.now }
     {
         rest.iter().all(|kind| self.agree(first, *kind))

@@ -1,5 +1,5 @@
 // The row of a call.
-ghost use Rattle.std.specs.Prelude.{◌≡◌, IfSome, Contains, map};
+ghost use Rattle.std.specs.Prelude.{◌≡◌, IfSome};
 ghost use Rattle.std.specs.Option.{option_map};
 ghost use Rattle.func_table.specs.Find as spec;
 ghost use Rattle.func_table.specs.Seen.{seen, entry_seen};
@@ -9,7 +9,8 @@ use crate::row::{Class, Row};
 use crate::table::lines;
 use sub_types::Kind;
 
-/// The row of a function of a file, at arguments of these kinds.
+/// The row of a file's function of this name and class that takes arguments of these kinds. No other row takes them
+/// (`one_row_fits`).
 pub fn find(file: &str, name: &str, kinds: &[Kind], class: Class) -> Option<Row>
     ensures row { option_map seen result ≡ spec.row_for file.now name.now kinds.now class }
     ensures of_table { IfSome result (λ row. spec.IsRow (seen row)) }
@@ -26,7 +27,7 @@ fn line_for(file: &str, name: &str, kinds: &[Kind], class: Class) -> Option<&'st
         .find(|line| line.fits(file, name, kinds, class))
 }
 
-/// Whether a file has a function of this name and class.
+/// Whether a file has a function of this name and class, whatever its arguments are.
 pub fn has_name(file: &str, name: &str, class: Class) -> bool
     ensures { result ≡ spec.is_known file.now name.now class }
 {

@@ -9,5 +9,5 @@ use Rattle.func_table.proofs.options.choice_of.Goals as goal
 
 pub returns : goal.returns
 returns c =
-  let choice = find_from_yields_List (λ choice. bytes_eq choice.option.now c.args.option.now) _ _ c.find.result c.find.ensures.ran (YieldsList-from_slice c.options_of.result.now cc) (λ x b q k. search (rules, tests)) in
-  found_seen (λ choice. choice.now) choice_seen (λ choice. bytes_eq choice.option c.args.option.now) c.options_of.result.now (options_of (seen c.args.row.now)) c.find.result c.options_of.ensures choice
+    let choice = find_from_yields_List (λ choice. bytes_eq choice.option.now c.args.name.now) _ _ c.find.result c.find.ensures.ran (YieldsList-from_slice c.options_of.result.now cc) (λ x b q k. search (rules, tests)) in
+    found_seen (λ choice. choice.now) choice_seen (λ choice. bytes_eq choice.option c.args.name.now) c.options_of.result.now (options_of (seen c.args.row.now)) c.find.result c.options_of.ensures choice
