@@ -10,7 +10,7 @@ use Rattle.sub_types.specs.declared.kind.Kind.{Kind}
 use Rattle.func_table.specs.declared.row.Class.{Class}
 use Rattle.func_table.specs.declared.row.Class.TheVariants.{Scalar, Aggregate}
 use Rattle.func_table.specs.Kinds.{short_name}
-use Rattle.func_table.specs.Entry.{Entry, Arguments, Each, AnyNumber, OneOrMore, any, takes_kind, takes_kinds, is_class, is_named, all_agree, fits}
+use Rattle.func_table.specs.Entry.{Entry, Arguments, Each, AnyNumber, OneOrMore, any, takes_kind, takes_kinds, is_class, is_named, fits}
 use Rattle.func_table.specs.Table.{table}
 use Rattle.func_table.proofs.ListLaws.{count_by-cons}
 

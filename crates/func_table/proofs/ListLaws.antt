@@ -1,5 +1,5 @@
 -- Laws of lists that std has not.
-use Rattle.std.proofs.Common.{◌≡◌, ◌≤◌, ◌+◌, ◌∙◌, refl, ap, sym, Bool, true, false, cond, List, [], ◌∷◌, ◌&&◌, ◌||◌, ◌⊎◌, inl, inr, map, length, Option, Some, None, ℕ, zero, suc, arith}
+use Rattle.std.proofs.Common.{◌≡◌, ◌≤◌, ◌+◌, ◌∙◌, refl, ap, sym, Bool, true, false, cond, List, [], ◌∷◌, ◌&&◌, ◌||◌, ◌⊎◌, inl, inr, map, length, Option, Some, None, zero, suc, arith}
 use Rattle.std.specs.List.{find, list_any, list_all, zip, Contains, count_by}
 use Rattle.std.specs.Option.{option_map}
 use Rattle.std.specs.Cmp.Lexicographic.{pointwise}

@@ -60,6 +60,7 @@ abbrev pub all_agree : Alike → List Kind → Bool
 all_agree alike [] = true
 all_agree alike (kind ∷ kinds) = list_all (agree alike kind) kinds
 
+-- the same class
 abbrev pub is_class : Class → Class → Bool
 is_class Scalar Scalar = true
 is_class Aggregate Aggregate = true

@@ -24,9 +24,11 @@ overflow_modes = record { option = codes "overflow"; values = codes "ERROR" ∷ 
 abbrev pub overflow_fault : Choice
 overflow_fault = only (codes "overflow") (codes "ERROR")
 
+-- the options of a division
 abbrev pub division_options : List Choice
 division_options = overflow_modes ∷ only (codes "on_division_by_zero") (codes "ERROR") ∷ only (codes "on_domain_error") (codes "ERROR") ∷ []
 
+-- capital and small letters differ
 abbrev pub case_sensitive : Choice
 case_sensitive = only (codes "case_sensitivity") (codes "CASE_SENSITIVE")
 

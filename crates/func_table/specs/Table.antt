@@ -10,6 +10,7 @@ use Rattle.func_table.specs.declared.line.Alike.{Alike}
 use Rattle.func_table.specs.declared.line.Alike.TheVariants as alike
 use Rattle.func_table.specs.Entry.{Entry, Arguments, Each, AnyNumber, OneOrMore, any, entry_of}
 
+-- the short names of arguments that stand more than once
 abbrev pub bool : List ℕ
 bool = codes "bool"
 
@@ -23,6 +24,7 @@ i32 = codes "i32"
 abbrev pub for_each : List (List ℕ) → List ℕ → Class → List ℕ → ℕ → Func → ResultRule → List Entry
 for_each kinds file class name count func result = map (λ kind. entry_of file class name (Each (replicate count kind)) alike.Free func result) kinds
 
+-- a function of truth values
 abbrev pub boolean : List ℕ → Arguments → Func → Entry
 boolean name arguments func = entry_of (codes "functions_boolean.yaml") Scalar name arguments alike.Free func results.Bool
 
@@ -34,6 +36,7 @@ boolean_entries =
     ∷ boolean (codes "xor") (Each (bool ∷ bool ∷ [])) funcs.Xor
     ∷ []
 
+-- a function of values of any kind
 abbrev pub comparison : List ℕ → Arguments → Alike → Func → ResultRule → Entry
 comparison name arguments = entry_of (codes "functions_comparison.yaml") Scalar name arguments
 
@@ -57,7 +60,7 @@ comparison_entries =
     ∷ comparison (codes "nullif") (Each (any ∷ any ∷ [])) alike.Equal funcs.Nullif results.Same
     ∷ []
 
--- a function of integers of each size
+-- a function of integers, for each of their four kinds
 abbrev pub arithmetic : Class → List ℕ → ℕ → Func → ResultRule → List Entry
 arithmetic = for_each (codes "i8" ∷ codes "i16" ∷ codes "i32" ∷ codes "i64" ∷ []) (codes "functions_arithmetic.yaml")
 
@@ -74,6 +77,7 @@ arithmetic_entries =
     ++ arithmetic Aggregate (codes "min") 1 funcs.Min results.Same
     ++ arithmetic Aggregate (codes "max") 1 funcs.Max results.Same
 
+-- a function of decimals
 abbrev pub decimal : Class → List ℕ → ℕ → Func → ResultRule → List Entry
 decimal = for_each (codes "dec" ∷ []) (codes "functions_arithmetic_decimal.yaml")
 
@@ -87,6 +91,7 @@ decimal_entries =
     ++ decimal Aggregate (codes "min") 1 funcs.Min results.Same
     ++ decimal Aggregate (codes "max") 1 funcs.Max results.Same
 
+-- a function of texts
 abbrev pub string : List ℕ → Arguments → Func → ResultRule → Entry
 string name arguments func result = entry_of (codes "functions_string.yaml") Scalar name arguments alike.Free func result
 
@@ -103,6 +108,7 @@ string_entries =
     ∷ string (codes "octet_length") (Each (str ∷ [])) funcs.OctetLength results.I64
     ∷ []
 
+-- a function of dates, and of timestamps
 abbrev pub datetime : Class → List ℕ → ℕ → Func → ResultRule → List Entry
 datetime = for_each (codes "date" ∷ codes "ts" ∷ []) (codes "functions_datetime.yaml")
 
@@ -115,6 +121,7 @@ datetime_entries =
     ++ datetime Aggregate (codes "min") 1 funcs.Min results.Same
     ++ datetime Aggregate (codes "max") 1 funcs.Max results.Same
 
+-- an aggregate function of any rows
 abbrev pub generic : List ℕ → Arguments → Func → ResultRule → Entry
 generic name arguments func result = entry_of (codes "functions_aggregate_generic.yaml") Aggregate name arguments alike.Free func result
 
@@ -124,5 +131,6 @@ generic_entries =
     ∷ generic (codes "count") (Each (any ∷ [])) funcs.Count results.I64
     ∷ []
 
+-- all entries, in the order of the files
 unfoldable pub table : List Entry
 table = boolean_entries ++ comparison_entries ++ arithmetic_entries ++ decimal_entries ++ string_entries ++ datetime_entries ++ generic_entries
