@@ -1,5 +1,5 @@
 -- What is looked at in a footer or a message: a part that isn't inside the bytes makes the whole unreadable.
-use Rattle.std.specs.Prelude.{◌≡◌, ℕ, List, [], ◌∷◌, Bool, Option, Some, None, Result, Ok, Err, unwrap_or, ◌||◌, ◌==◌, if◌then◌else◌}
+use Rattle.std.specs.Prelude.{◌≡◌, ℕ, Bool, Option, Some, None, Result, Ok, Err, unwrap_or, ◌||◌, ◌==◌, if◌then◌else◌}
 use Rattle.fb_bytes.specs.declared.bad_buffer.BadBuffer.{BadBuffer}
 use Rattle.fb_bytes.specs.Reading.{TableAt, scalar_of, table_of}
 use Rattle.sub_types.specs.ResultSteps.{◌>>=◌}

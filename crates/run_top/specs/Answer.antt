@@ -1,5 +1,5 @@
 -- What a command line denotes over the files of a folder, and which statuses, files and reports fit it.
-use Rattle.std.specs.Prelude.{◌≡◌, ◌⊎◌, ℕ, ◌+◌, ◌/◌, ◌^◌, List, [], ◌∷◌, Option, None, Result, Ok, Err, length, map, IsOkAnd, if◌then◌else◌, nat_le}
+use Rattle.std.specs.Prelude.{◌≡◌, ◌⊎◌, ℕ, ◌+◌, ◌/◌, ◌^◌, List, [], ◌∷◌, Option, Result, Ok, Err, length, map, IsOkAnd, if◌then◌else◌, nat_le}
 use Rattle.std.specs.Option.{ok_or}
 use Rattle.std.specs.FinMap.{get}
 use Rattle.world.specs.Files.{Files, written, IsPartWritten}

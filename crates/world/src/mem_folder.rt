@@ -1,5 +1,5 @@
 // A folder in memory, with failures that a test can plan.
-ghost use Rattle.std.specs.Prelude.{◌≡◌, ◌-◌, ◌≤◌, ◌↔◌, ◌++◌, ◌∷◌, [], Some, None, Err, true, false, IsTrue, IsSome, IsSomeAnd, OnOk, OnErr, IfOk, IfErr, IfSome, if◌then◌else◌, is_ok, take};
+ghost use Rattle.std.specs.Prelude.{◌≡◌, ◌-◌, ◌≤◌, ◌↔◌, ◌++◌, ◌∷◌, [], Some, None, Err, true, false, IsTrue, IsSomeAnd, OnOk, OnErr, IfOk, IfErr, IfSome, if◌then◌else◌, is_ok, take};
 ghost use Rattle.std.specs.Option.{option_copied, option_map};
 ghost use Rattle.std.specs.FinMap as map;
 ghost use Rattle.world.specs.Counts.{HasCause, IsStill, sum_of_counts};
