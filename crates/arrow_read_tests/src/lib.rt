@@ -1,5 +1,5 @@
-//! Tests of `arrow_read`: Arrow files over readers in memory. Expected values come from the formats or from other
-//! tools, and none from the engine.
+//! Tests of `arrow_read`: which reads a file and its block take. What files hold, and why they are refused, are cases of
+//! `worked_cases`.
 #![tactic(auto)]
 
 #[cfg(test)]

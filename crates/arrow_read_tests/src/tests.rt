@@ -1,5 +1,3 @@
-// Heads and record batches of worked files, and what a damaged file is refused for.
+// The reads that a file and its block take.
 mod answers;
-mod files;
-mod opening;
 mod reading;

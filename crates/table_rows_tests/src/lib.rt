@@ -1,5 +1,5 @@
-//! Tests of `table_rows`: the rows of a table's files, over readers in memory. Expected values come from the
-//! formats or from other tools, and none from the engine.
+//! Tests of `table_rows`: the first fault of a batch, where texts are too long for a case, and nulls behind full bytes of
+//! validity. Rows of files are cases of `worked_cases`.
 #![tactic(auto)]
 
 #[cfg(test)]

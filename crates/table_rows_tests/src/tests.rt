@@ -1,6 +1,3 @@
-// Rows of worked files up to their first fault, and batches with faults.
-mod answers;
+// Batches with faults.
 mod batches;
-mod cells;
 mod checking;
-mod reading;

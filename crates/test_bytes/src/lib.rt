@@ -6,6 +6,6 @@ mod files;
 mod messages;
 mod plans;
 
-pub use files::{DELTAS_FILE, THREE_ROWS_FILE};
+pub use files::THREE_ROWS_FILE;
 pub use messages::{FOOTER, RECORD_MESSAGE, SCHEMA_MESSAGE};
 pub use plans::{CHAIN_TOO_DEEP, READABLE_CHAIN, THREE_ROWS_PLAN};

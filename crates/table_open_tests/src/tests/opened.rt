@@ -43,12 +43,6 @@ pub(super) fn error(
     table(alloc, folder, &words, column, kind).err()
 }
 
-/// Why the table with the column x of 64-bit whole numbers isn't opened, where `t` is bound to a file of these bytes.
-pub(super) fn refusal(alloc: Global, bytes: &[u8]) -> Option<TableError> {
-    let mut folder = folder_of(alloc, bytes)?;
-    error(alloc, &mut folder, "t=f", "x", Kind::I64)
-}
-
 /// The first file refused by this rule.
 pub(super) fn first(rule: FileRule) -> Option<TableError> {
     Some(TableError::Refused { file: 1, rule })

@@ -1,5 +1,5 @@
 // What a table is refused for.
-use super::opened::{error, first, folder_of, refusal, table};
+use super::opened::{error, first, folder_of, table};
 use std::test::Fail;
 use sub_types::{Kind, Word};
 use table_open::{FileRule, TableError};
@@ -37,42 +37,5 @@ fn the_number_of_a_binding(rt: HostRuntime) -> Result<(), Fail> {
     assert!(rt; table(alloc, &mut folder, &words, "x", Kind::I64).err() == Some(missing));
     // The first file was opened and given back: both ends, the footer, and the size and the metadata of the block.
     assert!(rt; folder.reads().len() == 5);
-    Ok(())
-}
-
-#[test]
-fn damaged_files(rt: HostRuntime) -> Result<(), Fail> {
-    let alloc = rt.alloc();
-    assert!(rt; refusal(alloc, &THREE_ROWS_FILE) == None);
-    assert!(rt; refusal(alloc, &THREE_ROWS_FILE[..17]) == first(FileRule::NotArrow));
-    assert!(rt; refusal(alloc, b"") == first(FileRule::NotArrow));
-    let mut bytes = THREE_ROWS_FILE;
-    bytes[536] = 0;
-    assert!(rt; refusal(alloc, &bytes) == first(FileRule::BadFooter { place: 536 }));
-    Ok(())
-}
-
-#[test]
-fn other_columns(rt: HostRuntime) -> Result<(), Fail> {
-    let alloc = rt.alloc();
-    let mut folder = folder_of(alloc, &THREE_ROWS_FILE).ok_or("no folder")?;
-    let absent = first(FileRule::NoColumn {
-        relation: 7,
-        column: 0,
-    });
-    for name in ["y", "X", "", "xx"] {
-        assert!(rt; error(alloc, &mut folder, "t=f", name, Kind::I64) == absent);
-    }
-    let wrong = first(FileRule::WrongType {
-        relation: 7,
-        column: 0,
-    });
-    let decimal = Kind::Decimal {
-        precision: 19,
-        scale: 0,
-    };
-    for kind in [Kind::Text, Kind::I32, Kind::Timestamp, decimal] {
-        assert!(rt; error(alloc, &mut folder, "t=f", "x", kind) == wrong);
-    }
     Ok(())
 }
