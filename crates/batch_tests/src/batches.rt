@@ -1,28 +1,17 @@
 // Batches.
 ghost use Rattle.std.specs.Prelude.{◌≡◌, ◌∷◌, [], true, IfOk};
-ghost use Rattle.sub_types.specs.Kind.{IsKind};
-ghost use Rattle.sub_types.specs.Value.{InKind};
 ghost use Rattle.batch.specs.BatchRows.{types_of};
 
-use batch::{Batch, Column, ColumnBuilder, ColumnData, Storage, join_batches};
+use batch::{Batch, Column, ColumnBuilder, join_batches};
 use std::alloc::Global;
 use std::process::Abort;
 use std::test::Fail;
-use sub_types::{ByteList, Kind, NoMemory, Ty, Value};
+use sub_types::{Kind, NoMemory, Ty, Value};
 
 const NUMBER: Ty = Ty {
     kind: Kind::I64,
     nullable: true,
 };
-
-fn nullable(kind: Kind) -> Ty
-    ensures { result ≡ record { kind = kind; nullable = true } }
-{
-    Ty {
-        kind,
-        nullable: true,
-    }
-}
 
 // Whether the values are equal.
 fn is_same(a: &Value, b: &Value) -> bool {
@@ -167,121 +156,5 @@ fn join_of_nothing_of_one_and_of_parts(rt: HostRuntime) -> Result<(), Fail> {
     assert_numbers(&rt, &joined, &[Some(6), Some(4), None, Some(6)])?;
     let one = join_one(&rt, numbers(rt.alloc(), None, Some(1), None)?)?;
     assert_numbers(&rt, &one, &[None, Some(1), None])?;
-    Ok(())
-}
-
-fn storage_of(values: &ColumnData) -> Storage {
-    match values {
-        ColumnData::Bool(_) => Storage::Bool,
-        ColumnData::I8(_) => Storage::I8,
-        ColumnData::I16(_) => Storage::I16,
-        ColumnData::I32(_) => Storage::I32,
-        ColumnData::I64(_) => Storage::I64,
-        ColumnData::I128(_) => Storage::I128,
-        ColumnData::Bytes(_) => Storage::Bytes,
-    }
-}
-
-// A column of the kind with a null between two values keeps them, whole and in a part.
-fn assert_kind(
-    rt: &(impl Abort + AllocGlobal),
-    kind: Kind,
-    storage: Storage,
-    first: &Value,
-    last: &Value,
-) -> Result<(), NoMemory>
-    requires kind { IsKind kind }
-    requires first { InKind kind first.now }
-    requires last { InKind kind last.now }
-{
-    let mut builder = ColumnBuilder::new(rt.alloc(), nullable(kind));
-    builder.push(first)?;
-    builder.push(&Value::Null)?;
-    builder.push(last)?;
-    let column = builder.finish();
-    assert_eq!(rt; storage_of(&column.values), storage, "{kind:?}");
-    let batch = batch_of(rt.alloc(), 0, column)?;
-    assert_eq!(rt; batch.rows, 3);
-    assert_value(rt, &batch, 0, 0, first)?;
-    assert_value(rt, &batch, 0, 1, &Value::Null)?;
-    assert_value(rt, &batch, 0, 2, last)?;
-    let part = batch.slice(rt.alloc(), 1, 3)?;
-    assert_value(rt, &part, 0, 0, &Value::Null)?;
-    assert_value(rt, &part, 0, 1, last)
-}
-
-#[test]
-fn a_column_of_each_kind_of_number(rt: HostRuntime) -> Result<(), Fail> {
-    assert_kind(
-        &rt,
-        Kind::Bool,
-        Storage::Bool,
-        &Value::Bool(true),
-        &Value::Bool(false),
-    )?;
-    assert_kind(
-        &rt,
-        Kind::I8,
-        Storage::I8,
-        &Value::Int(-128),
-        &Value::Int(127),
-    )?;
-    assert_kind(
-        &rt,
-        Kind::I16,
-        Storage::I16,
-        &Value::Int(-32768),
-        &Value::Int(32767),
-    )?;
-    assert_kind(
-        &rt,
-        Kind::I32,
-        Storage::I32,
-        &Value::Int(-5),
-        &Value::Int(70000),
-    )?;
-    assert_kind(
-        &rt,
-        Kind::I64,
-        Storage::I64,
-        &Value::Int(-1),
-        &Value::Int(1),
-    )?;
-    assert_kind(
-        &rt,
-        Kind::Date,
-        Storage::I32,
-        &Value::Int(-1),
-        &Value::Int(9000),
-    )?;
-    assert_kind(
-        &rt,
-        Kind::Timestamp,
-        Storage::I64,
-        &Value::Int(-1),
-        &Value::Int(9000),
-    )?;
-    let decimal = Kind::Decimal {
-        precision: 3,
-        scale: 1,
-    };
-    assert_kind(
-        &rt,
-        decimal,
-        Storage::I128,
-        &Value::Dec(-999),
-        &Value::Dec(999),
-    )?;
-    Ok(())
-}
-
-#[test]
-fn columns_of_bytes(rt: HostRuntime) -> Result<(), Fail> {
-    let any = Value::Bytes(ByteList::of(rt.alloc(), b"\xff\x00")?);
-    let empty = Value::Bytes(ByteList::of(rt.alloc(), b"")?);
-    assert_kind(&rt, Kind::Binary, Storage::Bytes, &any, &empty)?;
-    let abc = Value::Bytes(ByteList::of(rt.alloc(), "abc".as_bytes())?);
-    let hi = Value::Bytes(ByteList::of(rt.alloc(), "hi".as_bytes())?);
-    assert_kind(&rt, Kind::Text, Storage::Bytes, &abc, &hi)?;
     Ok(())
 }
