@@ -32,21 +32,26 @@ impl CountingFolder {
 
     /// Sets a file.
     pub(crate) fn put_file(&mut self, name: &str, bytes: &[u8]) -> Result<(), NoMemory> {
-        self.keep_name(name)?;
+        keep_name(self.alloc, &mut self.names, name)?;
         self.inner.put_file(name, bytes)
     }
 
     /// Whether a file of that name was put or was to be created.
     pub(crate) fn has_name(&self, name: &str) -> bool {
-        self.names.iter().any(|other| other.as_str() == name)
+        is_among(&self.names, name)
     }
+}
 
-    fn keep_name(&mut self, name: &str) -> Result<(), NoMemory> {
-        if !self.has_name(name) {
-            self.names.push(String::from_str(self.alloc, name)?)?;
-        }
-        Ok(())
+fn is_among(names: &[String], name: &str) -> bool {
+    names.iter().any(|other| other.as_str() == name)
+}
+
+// Adds a name that isn't there yet.
+fn keep_name(alloc: Global, names: &mut Vec<String>, name: &str) -> Result<(), NoMemory> {
+    if !is_among(names, name) {
+        names.push(String::from_str(alloc, name)?)?;
     }
+    Ok(())
 }
 
 impl Folder for CountingFolder {
@@ -76,7 +81,7 @@ impl Folder for CountingFolder {
     }
 
     fn create(&mut self, alloc: Global, name: &str) -> Result<(), FolderError> {
-        self.keep_name(name)?;
+        keep_name(self.alloc, &mut self.names, name)?;
         self.inner.create(alloc, name)
     }
 
