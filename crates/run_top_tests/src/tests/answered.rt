@@ -16,7 +16,7 @@ pub(super) struct Answered {
 }
 
 // Runs the words over the folder.
-pub(super) fn answered<H: Threads + Wait + Sync>(
+pub(super) fn run_words<H: Threads + Wait + Sync>(
     rt: &H,
     alloc: Global,
     folder: &mut MemFolder,

@@ -1,5 +1,5 @@
 // What a run reports: its rows, and the receipts of its workers.
-use super::answered::{answered, put, repeated};
+use super::answered::{put, repeated, run_words};
 use super::plans::{MANY_ROWS_HEAD, MANY_ROWS_TAIL, NO_ROWS, ROW, X_OF_T};
 use run_core::Receipt;
 use run_top::{PipeReceipt, Status};
@@ -55,7 +55,7 @@ fn rows_batches_and_workers(rt: HostRuntime) -> Result<(), Fail> {
         (&["run", "x", "o", "3", "t=n", "t=g"], (1_028, 3, 3)),
     ];
     for (words, counts) in runs {
-        let answered = answered(&rt, rt.alloc(), &mut folder, words)?;
+        let answered = run_words(&rt, rt.alloc(), &mut folder, words)?;
         assert!(rt; counts_of(&answered.status) == Some(counts));
     }
     Ok(())
@@ -86,7 +86,7 @@ fn did_nothing(worker: &Receipt) -> bool {
 fn receipts_of_two_batches(rt: HostRuntime) -> Result<(), Fail> {
     let mut folder = folder_of(rt.alloc())?;
     let words = ["run", "x", "o", "3", "t=g", "t=g"];
-    let answered = answered(&rt, rt.alloc(), &mut folder, &words)?;
+    let answered = run_words(&rt, rt.alloc(), &mut folder, &words)?;
     assert!(rt; receipt_of(&answered.status).is_some_and(is_of_the_first_worker));
     Ok(())
 }

@@ -1,5 +1,5 @@
 // A text that is longer than one may be.
-use super::answered::{answered, put, repeated};
+use super::answered::{put, repeated, run_words};
 use super::files::{LONG_TEXT_HEAD, LONG_TEXT_TAIL};
 use super::plans::TEXT_X_OF_T;
 use run_top::exit_number;
@@ -13,7 +13,7 @@ fn a_text_that_is_too_long(rt: HostRuntime) -> Result<(), Fail> {
     put(alloc, &mut folder, "p", TEXT_X_OF_T)?;
     let file = repeated(alloc, LONG_TEXT_HEAD, "61", 1_048_577, LONG_TEXT_TAIL)?;
     folder.put_file("f", &file)?;
-    let answered = answered(&rt, alloc, &mut folder, &["run", "p", "o", "3", "t=f"])?;
+    let answered = run_words(&rt, alloc, &mut folder, &["run", "p", "o", "3", "t=f"])?;
     assert!(rt; exit_number(&answered.status) == 6);
     let line = b"data fault: relation 0: TextTooLong\n".as_slice();
     assert!(rt; answered.line.as_slice() == line);
