@@ -1,5 +1,5 @@
-//! Tests of `plan_decode`: the tree of a plan's bytes. Expected values come from the formats or from other tools,
-//! and none from the engine.
+//! Tests of `plan_decode`: trees of plans that no run shows yet, against trees that were worked out by hand. Which plans
+//! can't be read, and in how many records a message may stand, are cases of `worked_cases`.
 #![tactic(auto)]
 
 #[cfg(test)]

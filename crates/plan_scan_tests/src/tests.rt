@@ -1,5 +1,4 @@
 // Protocol Buffers against bytes that were worked out by hand.
-mod flaws;
 mod messages;
 mod records;
 mod varints;

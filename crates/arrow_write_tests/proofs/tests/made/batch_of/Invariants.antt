@@ -1,7 +1,0 @@
-use Rattle.std.proofs.Common.{◌≡◌, length, take}
-use Rattle.std.specs.List.{All}
-use Rattle.batch.specs.Column.{column_values}
-use Rattle.arrow_write_tests.proofs.tests.made.batch_of.Given as goal
-
-abbrev pub invariant-loop-column : goal.invariant-loop-column
-invariant-loop-column l = All (λ column. length (column_values column) ≡ l.rows) (take l.column-index l.column-items)
