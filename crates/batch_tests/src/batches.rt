@@ -2,10 +2,9 @@
 ghost use Rattle.std.specs.Prelude.{◌≡◌, ◌∷◌, [], true, IfOk};
 ghost use Rattle.batch.specs.BatchRows.{types_of};
 
+use crate::places::are_below;
 use batch::{Batch, Column, ColumnBuilder, join_batches};
 use std::alloc::Global;
-use std::process::Abort;
-use std::test::Fail;
 use sub_types::{Kind, NoMemory, Ty, Value};
 
 const NUMBER: Ty = Ty {
@@ -13,45 +12,29 @@ const NUMBER: Ty = Ty {
     nullable: true,
 };
 
-// Whether the values are equal.
-fn is_same(a: &Value, b: &Value) -> bool {
-    match (a, b) {
-        (Value::Null, Value::Null) => true,
-        (Value::Bool(a), Value::Bool(b)) => a == b,
-        (Value::Int(a), Value::Int(b)) => a == b,
-        (Value::Dec(a), Value::Dec(b)) => a == b,
-        (Value::Bytes(a), Value::Bytes(b)) => a.bytes() == b.bytes(),
+// Whether the row of the one column has this number.
+fn has_number(alloc: Global, batch: &Batch, row: u64, want: Option<i64>) -> bool {
+    if batch.columns.is_empty() || row >= batch.rows {
+        return false;
+    }
+    match batch.value_at(alloc, 0, row) {
+        Ok(Value::Int(number)) => want == Some(number),
+        Ok(Value::Null) => want.is_none(),
         _ => false,
     }
 }
 
-fn assert_value(
-    rt: &(impl Abort + AllocGlobal),
-    batch: &Batch,
-    column: usize,
-    row: u64,
-    want: &Value,
-) -> Result<(), NoMemory> {
-    assert!(rt; column < batch.columns.len() && row < batch.rows);
-    let got = batch.value_at(rt.alloc(), column, row)?;
-    assert!(rt; is_same(&got, want), "{got:?} is not {want:?} at {row}");
-    Ok(())
-}
-
-fn assert_numbers(
-    rt: &(impl Abort + AllocGlobal),
-    batch: &Batch,
-    list: &[Option<i64>],
-) -> Result<(), NoMemory> {
-    assert_eq!(rt; batch.rows, list.len() as u64);
-    for (row, number) in list.iter().enumerate() {
-        let want = match number {
-            Some(number) => Value::Int(*number),
-            None => Value::Null,
-        };
-        assert_value(rt, batch, 0, row as u64, &want)?;
+// Whether these are the numbers of the one column.
+fn are(alloc: Global, batch: &Batch, list: &[Option<i64>]) -> bool {
+    if batch.rows != list.len() as u64 {
+        return false;
     }
-    Ok(())
+    for (row, want) in list.iter().enumerate() {
+        if !has_number(alloc, batch, row as u64, *want) {
+            return false;
+        }
+    }
+    true
 }
 
 fn batch_of(alloc: Global, number: u64, column: Column) -> Result<Batch, NoMemory>
@@ -77,84 +60,112 @@ fn push_number(builder: &mut ColumnBuilder, number: Option<i64>) -> Result<(), N
     }
 }
 
-// A batch of one column of three numbers. Its number is 7.
-fn numbers(alloc: Global, a: Option<i64>, b: Option<i64>, c: Option<i64>) -> Result<Batch, NoMemory>
+// A batch of one column of these numbers. Its number is 7.
+fn numbers(alloc: Global, list: &[Option<i64>]) -> Result<Batch, NoMemory>
     ensures { IfOk result (λ batch. types_of batch ≡ NUMBER ∷ []) }
 {
     let mut builder = ColumnBuilder::new(alloc, NUMBER);
-    push_number(&mut builder, a)?;
-    push_number(&mut builder, b)?;
-    push_number(&mut builder, c)?;
+    for number in list {
+        push_number(&mut builder, *number)?;
+    }
     batch_of(alloc, 7, builder.finish())
 }
 
-fn part_of(
-    rt: &(impl Abort + AllocGlobal),
-    batch: &Batch,
-    from: u64,
-    to: u64,
-) -> Result<Batch, NoMemory>
+// A part, as far as it is there.
+fn part_of(alloc: Global, batch: &Batch, from: u64, to: u64) -> Result<Batch, NoMemory>
     ensures { IfOk result (λ part. types_of part ≡ types_of batch.now) }
 {
-    assert!(rt; from <= to && to <= batch.rows);
-    batch.slice(rt.alloc(), from, to)
+    let to = to.min(batch.rows);
+    batch.slice(alloc, from.min(to), to)
 }
 
-fn gathered(rt: &(impl Abort + AllocGlobal), batch: &Batch, at: &[u64]) -> Result<Batch, NoMemory> {
-    assert!(rt; at.iter().all(|i| *i < batch.rows));
-    batch.gather(rt.alloc(), at)
+// Whether the part has these numbers, and the batch's number.
+fn has_part(alloc: Global, batch: &Batch, from: u64, to: u64, list: &[Option<i64>]) -> bool {
+    match part_of(alloc, batch, from, to) {
+        Ok(part) => part.number == 7 && are(alloc, &part, list),
+        Err(_) => false,
+    }
+}
+
+// Whether the rows at these places have those numbers, and the batch's number.
+fn gathers(alloc: Global, batch: &Batch, at: &[u64], list: &[Option<i64>]) -> bool {
+    if !are_below(at, batch.rows) {
+        return false;
+    }
+    match batch.gather(alloc, at) {
+        Ok(picked) => picked.number == 7 && are(alloc, &picked, list),
+        Err(_) => false,
+    }
 }
 
 #[test]
-fn slice_and_gather(rt: HostRuntime) -> Result<(), Fail> {
-    let batch = numbers(rt.alloc(), Some(4), None, Some(6))?;
-    let part = part_of(&rt, &batch, 1, 3)?;
-    assert_eq!(rt; part.number, 7);
-    assert_numbers(&rt, &part, &[None, Some(6)])?;
-    assert_numbers(&rt, &part_of(&rt, &batch, 3, 3)?, &[])?;
-    let picked = gathered(&rt, &batch, &[2, 0, 1, 0])?;
-    assert_eq!(rt; picked.number, 7);
-    assert_numbers(&rt, &picked, &[Some(6), Some(4), None, Some(4)])?;
-    Ok(())
+fn slice_and_gather(rt: HostRuntime) {
+    let alloc = rt.alloc();
+    let holds = match numbers(alloc, &[Some(4), None, Some(6)]) {
+        Ok(batch) => has_part(alloc, &batch, 1, 3, &[None, Some(6)])
+            && has_part(alloc, &batch, 3, 3, &[])
+            && gathers(
+                alloc,
+                &batch,
+                &[2, 0, 1, 0],
+                &[Some(6), Some(4), None, Some(4)],
+            ),
+        Err(_) => false,
+    };
+    assert!(rt; holds);
+}
+
+// Whether the batches joined have these numbers, and the number 0.
+fn is_joined(alloc: Global, joined: Result<Batch, NoMemory>, list: &[Option<i64>]) -> bool {
+    match joined {
+        Ok(joined) => joined.number == 0 && are(alloc, &joined, list),
+        Err(_) => false,
+    }
 }
 
 fn join_none(alloc: Global) -> Result<Batch, NoMemory> {
     join_batches(alloc, &[NUMBER], &[])
 }
 
-fn join_one(rt: &(impl Abort + AllocGlobal), a: Batch) -> Result<Batch, NoMemory>
+// The batch alone, where it has few rows.
+fn join_one(alloc: Global, a: Batch) -> Result<Batch, NoMemory>
     requires { types_of a ≡ NUMBER ∷ [] }
 {
-    assert!(rt; a.rows < 100);
-    join_batches(rt.alloc(), &[NUMBER], &[a])
+    if a.rows >= 100 {
+        return Err(NoMemory);
+    }
+    join_batches(alloc, &[NUMBER], &[a])
 }
 
-fn join_three(
-    rt: &(impl Abort + AllocGlobal),
-    a: Batch,
-    b: Batch,
-    c: Batch,
-) -> Result<Batch, NoMemory>
+// The batches joined, where they have few rows.
+fn join_three(alloc: Global, a: Batch, b: Batch, c: Batch) -> Result<Batch, NoMemory>
     requires first { types_of a ≡ NUMBER ∷ [] }
     requires second { types_of b ≡ NUMBER ∷ [] }
     requires third { types_of c ≡ NUMBER ∷ [] }
 {
-    assert!(rt; a.rows < 100 && b.rows < 100 && c.rows < 100);
-    join_batches(rt.alloc(), &[NUMBER], &[a, b, c])
+    if a.rows >= 100 || b.rows >= 100 || c.rows >= 100 {
+        return Err(NoMemory);
+    }
+    join_batches(alloc, &[NUMBER], &[a, b, c])
+}
+
+// No rows of a batch, its last row, and all of it.
+fn join_parts(alloc: Global) -> Result<Batch, NoMemory> {
+    let batch = numbers(alloc, &[Some(4), None, Some(6)])?;
+    let none = part_of(alloc, &batch, 1, 1)?;
+    let last = part_of(alloc, &batch, 2, 3)?;
+    join_three(alloc, none, last, batch)
+}
+
+fn join_whole(alloc: Global) -> Result<Batch, NoMemory> {
+    join_one(alloc, numbers(alloc, &[None, Some(1), None])?)
 }
 
 #[test]
-fn join_of_nothing_of_one_and_of_parts(rt: HostRuntime) -> Result<(), Fail> {
-    let nothing = join_none(rt.alloc())?;
-    assert_eq!(rt; nothing.number, 0);
-    assert_numbers(&rt, &nothing, &[])?;
-    let batch = numbers(rt.alloc(), Some(4), None, Some(6))?;
-    let none = part_of(&rt, &batch, 1, 1)?;
-    let without = part_of(&rt, &batch, 2, 3)?;
-    let joined = join_three(&rt, none, without, batch)?;
-    assert_eq!(rt; joined.number, 0);
-    assert_numbers(&rt, &joined, &[Some(6), Some(4), None, Some(6)])?;
-    let one = join_one(&rt, numbers(rt.alloc(), None, Some(1), None)?)?;
-    assert_numbers(&rt, &one, &[None, Some(1), None])?;
-    Ok(())
+fn join_of_nothing_of_one_and_of_parts(rt: HostRuntime) {
+    let alloc = rt.alloc();
+    assert!(rt; is_joined(alloc, join_none(alloc), &[]));
+    assert!(rt; is_joined(alloc, join_whole(alloc), &[None, Some(1), None]));
+    let parts = [Some(6), Some(4), None, Some(6)];
+    assert!(rt; is_joined(alloc, join_parts(alloc), &parts));
 }

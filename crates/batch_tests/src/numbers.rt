@@ -1,11 +1,10 @@
 // Columns of numbers.
 ghost use Rattle.std.specs.Prelude.{◌≡◌, length};
 
+use crate::places::{are_below, first_false};
 use col_fixed::{Fixed, FixedBuilder, Native, View};
 use std::alloc::Global;
 use std::cmp::Ordering;
-use std::process::Abort;
-use std::test::Fail;
 use sub_types::{Bits, NoMemory};
 
 // 0, 1, null, 3, 4, null ..
@@ -17,42 +16,60 @@ fn expected(i: usize) -> Option<i64> {
     }
 }
 
-fn numbered(alloc: Global, n: usize) -> Result<Fixed<i64>, NoMemory> {
+// So many of them, of those for which memory was found.
+fn numbered(alloc: Global, n: usize) -> Fixed<i64> {
     let mut builder = FixedBuilder::new(alloc);
     for i in 0..n {
-        builder.push(expected(i))?;
+        let _ = builder.push(expected(i));
     }
-    Ok(builder.finish())
+    builder.finish()
 }
 
-fn assert_numbered(rt: &impl Abort, view: &View<'_, i64>, n: usize) {
-    assert_eq!(rt; view.len(), n);
+// Whether the column has so many of them.
+fn is_numbered(column: &Fixed<i64>, n: usize) -> bool {
+    let view = column.view();
+    if view.len() != n {
+        return false;
+    }
     for i in 0..view.len() {
-        assert_eq!(rt; view.value_at(i), expected(i));
+        if view.value_at(i) != expected(i) {
+            return false;
+        }
+    }
+    true
+}
+
+// Whether these are the values.
+fn are(view: &View<'_, i64>, list: &[Option<i64>]) -> bool {
+    if view.len() != list.len() {
+        return false;
+    }
+    for i in 0..list.len() {
+        if view.value_at(i) != list[i] {
+            return false;
+        }
+    }
+    true
+}
+
+// A part, as far as it is there.
+fn part_of<'a>(view: &View<'a, i64>, from: usize, to: usize) -> View<'a, i64> {
+    let to = to.min(view.len());
+    view.part(from.min(to), to)
+}
+
+// Whether the values at these places are those.
+fn gathers(alloc: Global, view: &View<'_, i64>, at: &[u64], list: &[Option<i64>]) -> bool {
+    if !are_below(at, view.len() as u64) {
+        return false;
+    }
+    match view.gather(alloc, at) {
+        Ok(picked) => are(&picked.view(), list),
+        Err(_) => false,
     }
 }
 
-fn assert_list(rt: &impl Abort, view: &View<'_, i64>, list: &[Option<i64>]) {
-    assert_eq!(rt; view.len(), list.len());
-    for i in 0..view.len() {
-        assert_eq!(rt; view.value_at(i), list[i]);
-    }
-}
-
-fn part_of<'a>(rt: &impl Abort, view: &View<'a, i64>, from: usize, to: usize) -> View<'a, i64> {
-    assert!(rt; from <= to && to <= view.len());
-    view.part(from, to)
-}
-
-fn gathered(
-    rt: &(impl Abort + AllocGlobal),
-    view: &View<'_, i64>,
-    at: &[u64],
-) -> Result<Fixed<i64>, NoMemory> {
-    assert!(rt; at.iter().all(|i| *i < view.len() as u64));
-    view.gather(rt.alloc(), at)
-}
-
+// Both with -1 between them.
 fn joined(alloc: Global, a: &View<'_, i64>, b: &View<'_, i64>) -> Result<Fixed<i64>, NoMemory> {
     let mut builder = FixedBuilder::new(alloc);
     builder.append(a)?;
@@ -61,64 +78,75 @@ fn joined(alloc: Global, a: &View<'_, i64>, b: &View<'_, i64>) -> Result<Fixed<i
     Ok(builder.finish())
 }
 
-#[test]
-fn past_one_and_two_words_of_bits(rt: HostRuntime) -> Result<(), Fail> {
-    for n in [0, 1, 64, 65, 130] {
-        assert_numbered(&rt, &numbered(rt.alloc(), n)?.view(), n);
+fn joins(alloc: Global, a: &View<'_, i64>, b: &View<'_, i64>, list: &[Option<i64>]) -> bool {
+    match joined(alloc, a, b) {
+        Ok(both) => are(&both.view(), list),
+        Err(_) => false,
     }
-    Ok(())
 }
 
 #[test]
-fn part_gather_and_append(rt: HostRuntime) -> Result<(), Fail> {
-    let column = numbered(rt.alloc(), 130)?;
-    let part = part_of(&rt, &column.view(), 61, 70);
-    let inner = part_of(&rt, &part, 1, 6);
-    assert_list(&rt, &inner, &[None, Some(63), Some(64), None, Some(66)]);
-    assert_eq!(rt; inner.values(), [0, 63, 64, 0, 66].as_slice());
-    let picked = gathered(&rt, &inner, &[4, 0, 2, 4])?;
-    assert_list(&rt, &picked.view(), &[Some(66), None, Some(64), Some(66)]);
-    let both = joined(rt.alloc(), &part_of(&rt, &inner, 1, 3), &inner)?;
-    assert_list(
-        &rt,
-        &both.view(),
-        &[
-            Some(63),
-            Some(64),
-            Some(-1),
-            None,
-            Some(63),
-            Some(64),
-            None,
-            Some(66),
-        ],
-    );
-    let one = joined(
-        rt.alloc(),
-        &part_of(&rt, &part, 9, 9),
-        &part_of(&rt, &part, 0, 0),
-    )?;
-    assert_list(&rt, &one.view(), &[Some(-1)]);
-    Ok(())
+fn past_one_and_two_words_of_bits(rt: HostRuntime) {
+    for n in [0, 1, 64, 65, 130] {
+        let column = numbered(rt.alloc(), n);
+        assert!(rt; is_numbered(&column, n));
+    }
 }
 
+#[test]
+fn part_gather_and_append(rt: HostRuntime) {
+    let alloc = rt.alloc();
+    let column = numbered(alloc, 130);
+    let part = part_of(&column.view(), 61, 70);
+    let inner = part_of(&part, 1, 6);
+    let five = [None, Some(63), Some(64), None, Some(66)];
+    let picked = [Some(66), None, Some(64), Some(66)];
+    let both = [
+        Some(63),
+        Some(64),
+        Some(-1),
+        None,
+        Some(63),
+        Some(64),
+        None,
+        Some(66),
+    ];
+    let seen = [
+        are(&inner, &five),
+        inner.values() == [0, 63, 64, 0, 66].as_slice(),
+        gathers(alloc, &inner, &[4, 0, 2, 4], &picked),
+        joins(alloc, &part_of(&inner, 1, 3), &inner, &both),
+        joins(
+            alloc,
+            &part_of(&part, 9, 9),
+            &part_of(&part, 0, 0),
+            &[Some(-1)],
+        ),
+    ];
+    assert_eq!(rt; first_false(&seen), None);
+}
+
+// The values 10, 1000 and -1, of which only the second is there.
 fn from_parts(alloc: Global) -> Result<Fixed<i32>, NoMemory> {
     let mut valid = Bits::zeros(alloc, 3)?;
     valid.put(1, true);
     Ok(Fixed::from_parts(vec![in alloc; 10, 1000, -1]?, valid))
 }
 
-#[test]
-fn zero_stands_where_a_value_is_null(rt: HostRuntime) -> Result<(), Fail> {
-    let column = from_parts(rt.alloc())?;
-    assert_eq!(rt; column.values(), [0, 1000, 0].as_slice());
-    Ok(())
+fn has_zeros(alloc: Global) -> bool {
+    match from_parts(alloc) {
+        Ok(column) => column.values() == [0, 1000, 0].as_slice(),
+        Err(_) => false,
+    }
 }
 
-fn written<T: Native>(number: T, into: &mut [u8])
-    requires { length into.old ≡ T.SIZE }
+// Whether a number is written as these bytes.
+fn is_written<T: Native, const N: usize>(number: T, bytes: &[u8; N]) -> bool
+    requires { N ≡ T.SIZE }
 {
-    number.write_le(into);
+    let mut into = [0; N];
+    number.write_le(&mut into);
+    into == *bytes
 }
 
 fn order<T: Native>(a: T, b: T) -> Ordering {
@@ -126,15 +154,15 @@ fn order<T: Native>(a: T, b: T) -> Ordering {
 }
 
 #[test]
-fn little_endian_bytes(rt: HostRuntime) {
-    let mut two = [0; 2];
-    written(-2i16, &mut two);
-    assert_eq!(rt; two, [0xfe, 0xff]);
-    let mut four = [0; 4];
-    written(258i32, &mut four);
-    assert_eq!(rt; four, [2, 1, 0, 0]);
-    assert_eq!(rt; i8::read_le(&[0x80]), -128);
-    assert_eq!(rt; i16::read_le(&[0x34, 0x12]), 0x1234);
-    assert_eq!(rt; order(-1i8, 1), Ordering::Less);
-    assert_eq!(rt; order(i128::zero(), 0), Ordering::Equal);
+fn zeros_and_little_endian_bytes(rt: HostRuntime) {
+    let seen = [
+        has_zeros(rt.alloc()),
+        is_written(-2i16, &[0xfe, 0xff]),
+        is_written(258i32, &[2, 1, 0, 0]),
+        i8::read_le(&[0x80]) == -128,
+        i16::read_le(&[0x34, 0x12]) == 0x1234,
+        order(-1i8, 1) == Ordering::Less,
+        order(i128::zero(), 0) == Ordering::Equal,
+    ];
+    assert_eq!(rt; first_false(&seen), None);
 }

@@ -1,8 +1,7 @@
 // Columns of texts.
+use crate::places::{are_below, first_false};
 use col_text::{TextBuilder, TextCol, TextView};
 use std::alloc::Global;
-use std::process::Abort;
-use std::test::Fail;
 use sub_types::NoMemory;
 
 // no bytes, ab, null, no bytes, ab, null ..
@@ -14,59 +13,82 @@ fn expected(i: usize) -> Option<&'static [u8]> {
     }
 }
 
-fn numbered(alloc: Global, n: usize) -> Result<TextCol, NoMemory> {
+// So many of them, of those for which memory was found.
+fn numbered(alloc: Global, n: usize) -> TextCol {
     let mut builder = TextBuilder::new(alloc);
     for i in 0..n {
-        builder.push(expected(i))?;
+        let _ = builder.push(expected(i));
     }
-    Ok(builder.finish())
+    builder.finish()
 }
 
-fn column_of(alloc: Global, list: &[Option<&[u8]>]) -> Result<TextCol, NoMemory> {
+// These texts, of those for which memory was found.
+fn column_of(alloc: Global, list: &[Option<&[u8]>]) -> TextCol {
     let mut builder = TextBuilder::new(alloc);
     for text in list {
-        builder.push(*text)?;
+        let _ = builder.push(*text);
     }
-    Ok(builder.finish())
+    builder.finish()
 }
 
-fn assert_numbered(rt: &impl Abort, view: &TextView<'_>, n: usize) {
-    assert_eq!(rt; view.len(), n);
+// Whether the column has so many of the first ones.
+fn is_numbered(column: &TextCol, n: usize) -> bool {
+    let view = column.view();
+    if view.len() != n {
+        return false;
+    }
     for i in 0..view.len() {
-        assert_eq!(rt; view.value_at(i), expected(i));
+        if view.value_at(i) != expected(i) {
+            return false;
+        }
     }
+    true
 }
 
-fn assert_list(rt: &impl Abort, view: &TextView<'_>, list: &[Option<&[u8]>]) {
-    assert_eq!(rt; view.len(), list.len());
-    for i in 0..view.len() {
-        assert_eq!(rt; view.value_at(i), list[i]);
+// Whether these are the values.
+fn are(view: &TextView<'_>, list: &[Option<&[u8]>]) -> bool {
+    if view.len() != list.len() {
+        return false;
     }
+    for i in 0..list.len() {
+        if view.value_at(i) != list[i] {
+            return false;
+        }
+    }
+    true
 }
 
-fn assert_buffers(rt: &impl Abort, view: &TextView<'_>, bytes: &[u8], offsets: &[usize]) {
-    assert_eq!(rt; view.bytes(), bytes);
-    assert!(rt; !offsets.is_empty());
-    assert_eq!(rt; offsets.len() - 1, view.len());
+// Whether these are the bytes, and the places where each value begins and the last one ends.
+fn has_buffers(view: &TextView<'_>, bytes: &[u8], offsets: &[usize]) -> bool {
+    if view.bytes() != bytes || offsets.len() != view.len().saturating_add(1) {
+        return false;
+    }
     for i in 0..offsets.len() {
-        assert_eq!(rt; view.offset(i), offsets[i]);
+        if view.offset(i) != offsets[i] {
+            return false;
+        }
+    }
+    true
+}
+
+// A part, as far as it is there.
+fn part_of<'a>(view: &TextView<'a>, from: usize, to: usize) -> TextView<'a> {
+    let to = to.min(view.len());
+    view.part(from.min(to), to)
+}
+
+// Whether the values at these places are those.
+fn gathers(alloc: Global, view: &TextView<'_>, at: &[u64], list: &[Option<&[u8]>]) -> bool {
+    if !are_below(at, view.len() as u64) {
+        return false;
+    }
+    match view.gather(alloc, at) {
+        Ok(picked) => are(&picked.view(), list),
+        Err(_) => false,
     }
 }
 
-fn part_of<'a>(rt: &impl Abort, view: &TextView<'a>, from: usize, to: usize) -> TextView<'a> {
-    assert!(rt; from <= to && to <= view.len());
-    view.part(from, to)
-}
-
-fn gathered(
-    rt: &(impl Abort + AllocGlobal),
-    view: &TextView<'_>,
-    at: &[u64],
-) -> Result<TextCol, NoMemory> {
-    assert!(rt; at.iter().all(|i| *i < view.len() as u64));
-    view.gather(rt.alloc(), at)
-}
-
+// Both with an exclamation mark between them.
 fn joined(alloc: Global, a: &TextView<'_>, b: &TextView<'_>) -> Result<TextCol, NoMemory> {
     let mut builder = TextBuilder::new(alloc);
     builder.append(a)?;
@@ -75,39 +97,46 @@ fn joined(alloc: Global, a: &TextView<'_>, b: &TextView<'_>) -> Result<TextCol, 
     Ok(builder.finish())
 }
 
-#[test]
-fn abc_null_hi(rt: HostRuntime) -> Result<(), Fail> {
-    let list: [Option<&[u8]>; 3] = [Some(b"abc"), None, Some(b"hi")];
-    let column = column_of(rt.alloc(), &list)?;
-    assert_list(&rt, &column.view(), &list);
-    assert_buffers(&rt, &column.view(), b"abchi", &[0, 3, 3, 5]);
-    Ok(())
-}
-
-#[test]
-fn past_one_and_two_words_of_bits(rt: HostRuntime) -> Result<(), Fail> {
-    for n in [0, 1, 64, 65, 130] {
-        assert_numbered(&rt, &numbered(rt.alloc(), n)?.view(), n);
+// Whether the texts of both have these bytes, and begin and end at these places.
+fn joins(
+    alloc: Global,
+    a: &TextView<'_>,
+    b: &TextView<'_>,
+    bytes: &[u8],
+    offsets: &[usize],
+) -> bool {
+    match joined(alloc, a, b) {
+        Ok(both) => has_buffers(&both.view(), bytes, offsets),
+        Err(_) => false,
     }
-    Ok(())
 }
 
 #[test]
-fn part_gather_and_append(rt: HostRuntime) -> Result<(), Fail> {
-    let list: [Option<&[u8]>; 5] = [
-        Some(b"one"),
-        None,
-        Some(b"three"),
-        Some(b""),
-        Some(b"\xff\xff"),
+fn past_one_and_two_words_of_bits(rt: HostRuntime) {
+    for n in [0, 1, 64, 65, 130] {
+        let column = numbered(rt.alloc(), n);
+        assert!(rt; is_numbered(&column, n));
+    }
+}
+
+#[test]
+fn part_gather_and_append(rt: HostRuntime) {
+    let alloc = rt.alloc();
+    let three = Some(b"three".as_slice());
+    let empty = Some(b"".as_slice());
+    let last = Some(b"\xff\xff".as_slice());
+    let list = [Some(b"one".as_slice()), None, three, empty, last];
+    let column = column_of(alloc, &list);
+    let whole = column.view();
+    let part = part_of(&part_of(&whole, 1, 5), 0, 3);
+    let end = part_of(&whole, 4, 5);
+    let seen = [
+        are(&whole, &list),
+        has_buffers(&whole, b"onethree\xff\xff", &[0, 3, 3, 8, 8, 10]),
+        are(&part, &[None, three, empty]),
+        has_buffers(&part, b"three", &[0, 0, 5, 5]),
+        gathers(alloc, &part, &[1, 0, 1], &[three, None, three]),
+        joins(alloc, &part, &end, b"three!\xff\xff", &[0, 0, 5, 5, 6, 8]),
     ];
-    let column = column_of(rt.alloc(), &list)?;
-    let part = part_of(&rt, &part_of(&rt, &column.view(), 1, 5), 0, 3);
-    assert_list(&rt, &part, &[None, Some(b"three"), Some(b"")]);
-    assert_buffers(&rt, &part, b"three", &[0, 0, 5, 5]);
-    let picked = gathered(&rt, &part, &[1, 0, 1])?;
-    assert_list(&rt, &picked.view(), &[Some(b"three"), None, Some(b"three")]);
-    let both = joined(rt.alloc(), &part, &part_of(&rt, &column.view(), 4, 5))?;
-    assert_buffers(&rt, &both.view(), b"three!\xff\xff", &[0, 0, 5, 5, 6, 8]);
-    Ok(())
+    assert_eq!(rt; first_false(&seen), None);
 }

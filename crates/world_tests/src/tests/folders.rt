@@ -1,77 +1,83 @@
 // A folder in memory without failures.
-use super::calls::{appends, folder_of, holds, opened, reads_four};
-use std::test::Fail;
-use world::{Folder, MemFolder, Reader};
+use super::calls::*;
 
 #[test]
-fn files_by_name(rt: HostRuntime) -> Result<(), Fail> {
-    let alloc = rt.alloc();
-    let mut folder = MemFolder::new(alloc);
-    assert!(rt; folder.file("a").is_none());
-    folder.put_file("a", b"abcdef")?;
-    folder.put_file("b", b"")?;
-    assert!(rt; holds(&folder, "a", b"abcdef"));
-    assert!(rt; holds(&folder, "b", b""));
-    folder.put_file("a", b"xy")?;
-    assert!(rt; holds(&folder, "a", b"xy"));
-    assert!(rt; holds(&folder, "b", b""));
-    assert!(rt; folder.file("A").is_none());
-    Ok(())
+fn files_by_name(rt: HostRuntime) {
+    let mut folder = folder_of(rt.alloc(), &[]);
+    let seen = [
+        lacks(&folder, "a"),
+        puts(&mut folder, "a", b"abcdef"),
+        puts(&mut folder, "b", b""),
+        holds(&folder, "a", b"abcdef"),
+        holds(&folder, "b", b""),
+        puts(&mut folder, "a", b"xy"),
+        holds(&folder, "a", b"xy"),
+        holds(&folder, "b", b""),
+        lacks(&folder, "A"),
+    ];
+    assert_eq!(rt; first_false(&seen), None);
 }
 
 #[test]
-fn a_reader_keeps_its_bytes_and_tells_its_reads(rt: HostRuntime) -> Result<(), Fail> {
+fn a_reader_keeps_its_bytes_and_tells_its_reads(rt: HostRuntime) {
     let alloc = rt.alloc();
-    let mut folder = MemFolder::new(alloc);
-    folder.put_file("a", b"abcdef")?;
-    assert!(rt; folder.reader(alloc, "b")?.is_none());
-    let mut reader = opened(alloc, &mut folder, "a").ok_or("no file")?;
-    assert!(rt; reader.len()? == 6);
-    folder.put_file("a", b"later")?;
-    assert!(rt; reads_four(alloc, &mut reader, 2, b"cdef"));
-    assert!(rt; reads_four(alloc, &mut reader, 0, b"abcd"));
-    assert!(rt; reader.reads() == [(2, 4), (0, 4)].as_slice());
-    assert!(rt; folder.reads().is_empty());
-    folder.give_back(alloc, reader)?;
-    assert!(rt; folder.reads() == [(2, 4), (0, 4)].as_slice());
-    assert!(rt; holds(&folder, "a", b"later"));
-    Ok(())
+    let mut folder = folder_of(alloc, &[("a", b"abcdef")]);
+    let mut reader = opened(alloc, &mut folder, "a");
+    let seen = [
+        finds_none(alloc, &mut folder, "b"),
+        length(&mut reader) == Some(Ok(6)),
+        puts(&mut folder, "a", b"later"),
+        reads(alloc, &mut reader, 2, b"cdef"),
+        reads(alloc, &mut reader, 0, b"abcd"),
+        was_asked(&reader, &[(2, 4), (0, 4)]),
+        tells(&folder, &[]),
+        gives_back(alloc, &mut folder, reader),
+        tells(&folder, &[(2, 4), (0, 4)]),
+        holds(&folder, "a", b"later"),
+    ];
+    assert_eq!(rt; first_false(&seen), None);
 }
 
 #[test]
-fn a_second_reader_is_absorbed(rt: HostRuntime) -> Result<(), Fail> {
+fn a_second_reader_is_absorbed(rt: HostRuntime) {
     let alloc = rt.alloc();
-    let mut folder = MemFolder::new(alloc);
-    folder.put_file("a", b"abcdef")?;
-    let mut reader = opened(alloc, &mut folder, "a").ok_or("no file")?;
-    assert!(rt; reads_four(alloc, &mut reader, 0, b"abcd"));
-    let mut second = reader.again(alloc)?;
-    assert!(rt; second.reads().is_empty());
-    assert!(rt; reads_four(alloc, &mut second, 2, b"cdef"));
-    assert!(rt; reader.reads() == [(0, 4)].as_slice());
-    reader.absorb(alloc, second)?;
-    assert!(rt; reader.reads() == [(0, 4), (2, 4)].as_slice());
-    folder.give_back(alloc, reader)?;
-    let mut other = opened(alloc, &mut folder, "a").ok_or("no file")?;
-    assert!(rt; reads_four(alloc, &mut other, 1, b"bcde"));
-    folder.give_back(alloc, other)?;
-    assert!(rt; folder.reads() == [(0, 4), (2, 4), (1, 4)].as_slice());
-    Ok(())
+    let mut folder = folder_of(alloc, &[("a", b"abcdef")]);
+    let mut reader = opened(alloc, &mut folder, "a");
+    let first = reads(alloc, &mut reader, 0, b"abcd");
+    let mut other = second(alloc, &mut reader);
+    let seen = [
+        first,
+        was_asked(&other, &[]),
+        reads(alloc, &mut other, 2, b"cdef"),
+        was_asked(&reader, &[(0, 4)]),
+        absorbs(alloc, &mut reader, other),
+        was_asked(&reader, &[(0, 4), (2, 4)]),
+        gives_back(alloc, &mut folder, reader),
+    ];
+    assert_eq!(rt; first_false(&seen), None);
+    let mut next = opened(alloc, &mut folder, "a");
+    let seen = [
+        reads(alloc, &mut next, 1, b"bcde"),
+        gives_back(alloc, &mut folder, next),
+        tells(&folder, &[(0, 4), (2, 4), (1, 4)]),
+    ];
+    assert_eq!(rt; first_false(&seen), None);
 }
 
 #[test]
-fn files_made_and_made_again(rt: HostRuntime) -> Result<(), Fail> {
+fn files_made_and_made_again(rt: HostRuntime) {
     let alloc = rt.alloc();
-    let mut folder = MemFolder::new(alloc);
-    folder.put_file("b", b"stays")?;
-    folder.create(alloc, "a")?;
-    assert!(rt; holds(&folder, "a", b""));
-    assert!(rt; appends(alloc, &mut folder, "a", b"abc"));
-    assert!(rt; appends(alloc, &mut folder, "a", b""));
-    assert!(rt; appends(alloc, &mut folder, "a", b"de"));
-    assert!(rt; holds(&folder, "a", b"abcde"));
-    folder.create(alloc, "a")?;
-    assert!(rt; holds(&folder, "a", b""));
-    assert!(rt; holds(&folder, "b", b"stays"));
-    Ok(())
+    let mut folder = folder_of(alloc, &[("b", b"stays")]);
+    let seen = [
+        creates(alloc, &mut folder, "a"),
+        holds(&folder, "a", b""),
+        appends(alloc, &mut folder, "a", b"abc"),
+        appends(alloc, &mut folder, "a", b""),
+        appends(alloc, &mut folder, "a", b"de"),
+        holds(&folder, "a", b"abcde"),
+        creates(alloc, &mut folder, "a"),
+        holds(&folder, "a", b""),
+        holds(&folder, "b", b"stays"),
+    ];
+    assert_eq!(rt; first_false(&seen), None);
 }

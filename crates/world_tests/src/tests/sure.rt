@@ -1,13 +1,10 @@
 // The folder in memory whose calls never fail.
-use super::calls::reads_four;
+use super::calls::{absorbs, first_false, length, reads, second};
 use std::alloc::Global;
-use std::test::Fail;
-use world::{Folder, Reader, SureFolder};
+use world::{Folder, SureFolder, SureReader};
 
-// Adds the piece to a file; whether it was there and the call didn't fail.
-#[tactic(auto, unfolding(world::specs::Files::Has))]
-fn appends(alloc: Global, folder: &mut SureFolder, name: &str, piece: &[u8]) -> bool {
-    folder.file(name).is_some() && folder.append(alloc, name, piece) == Ok(())
+fn puts(folder: &mut SureFolder, name: &str, bytes: &[u8]) -> bool {
+    folder.put_file(name, bytes).is_ok()
 }
 
 // Whether the named file is there and holds these bytes.
@@ -18,39 +15,79 @@ fn holds(folder: &SureFolder, name: &str, bytes: &[u8]) -> bool {
     }
 }
 
-#[test]
-fn files_are_made_and_grow(rt: HostRuntime) -> Result<(), Fail> {
-    let alloc = rt.alloc();
-    let mut folder = SureFolder::new(alloc);
-    assert!(rt; folder.file("a").is_none());
-    folder.put_file("a", b"old")?;
-    folder.put_file("b", b"stays")?;
-    assert!(rt; holds(&folder, "a", b"old"));
-    assert!(rt; appends(alloc, &mut folder, "a", b"er"));
-    assert!(rt; holds(&folder, "a", b"older"));
-    folder.create(alloc, "a")?;
-    assert!(rt; holds(&folder, "a", b""));
-    folder.create(alloc, "c")?;
-    assert!(rt; appends(alloc, &mut folder, "c", b"new"));
-    assert!(rt; holds(&folder, "c", b"new"));
-    assert!(rt; holds(&folder, "b", b"stays"));
-    Ok(())
+fn lacks(folder: &SureFolder, name: &str) -> bool {
+    folder.file(name).is_none()
+}
+
+fn creates(alloc: Global, folder: &mut SureFolder, name: &str) -> bool {
+    folder.create(alloc, name) == Ok(())
+}
+
+// Adds the piece to a file; whether it was there and the call didn't fail.
+#[tactic(auto, unfolding(world::specs::Files::Has))]
+fn appends(alloc: Global, folder: &mut SureFolder, name: &str, piece: &[u8]) -> bool {
+    folder.file(name).is_some() && folder.append(alloc, name, piece) == Ok(())
+}
+
+fn opened(alloc: Global, folder: &mut SureFolder, name: &str) -> Option<SureReader> {
+    match folder.reader(alloc, name) {
+        Ok(found) => found,
+        Err(_) => None,
+    }
+}
+
+fn finds_none(alloc: Global, folder: &mut SureFolder, name: &str) -> bool {
+    match folder.reader(alloc, name) {
+        Ok(found) => found.is_none(),
+        Err(_) => false,
+    }
+}
+
+fn gives_back(alloc: Global, folder: &mut SureFolder, reader: Option<SureReader>) -> bool {
+    match reader {
+        Some(reader) => folder.give_back(alloc, reader).is_ok(),
+        None => false,
+    }
 }
 
 #[test]
-fn its_readers_keep_their_bytes(rt: HostRuntime) -> Result<(), Fail> {
+fn files_are_made_and_grow(rt: HostRuntime) {
     let alloc = rt.alloc();
     let mut folder = SureFolder::new(alloc);
-    folder.put_file("a", b"abcdef")?;
-    assert!(rt; folder.reader(alloc, "b")?.is_none());
-    let mut reader = folder.reader(alloc, "a")?.ok_or("no file")?;
-    assert!(rt; reader.len()? == 6);
-    folder.put_file("a", b"later")?;
-    assert!(rt; reads_four(alloc, &mut reader, 2, b"cdef"));
-    let mut second = reader.again(alloc)?;
-    assert!(rt; reads_four(alloc, &mut second, 0, b"abcd"));
-    reader.absorb(alloc, second)?;
-    folder.give_back(alloc, reader)?;
-    assert!(rt; holds(&folder, "a", b"later"));
-    Ok(())
+    let seen = [
+        lacks(&folder, "a"),
+        puts(&mut folder, "a", b"old"),
+        puts(&mut folder, "b", b"stays"),
+        holds(&folder, "a", b"old"),
+        appends(alloc, &mut folder, "a", b"er"),
+        holds(&folder, "a", b"older"),
+        creates(alloc, &mut folder, "a"),
+        holds(&folder, "a", b""),
+        creates(alloc, &mut folder, "c"),
+        appends(alloc, &mut folder, "c", b"new"),
+        holds(&folder, "c", b"new"),
+        holds(&folder, "b", b"stays"),
+    ];
+    assert_eq!(rt; first_false(&seen), None);
+}
+
+#[test]
+fn its_readers_keep_their_bytes(rt: HostRuntime) {
+    let alloc = rt.alloc();
+    let mut folder = SureFolder::new(alloc);
+    let put = puts(&mut folder, "a", b"abcdef");
+    let mut reader = opened(alloc, &mut folder, "a");
+    let mut other = second(alloc, &mut reader);
+    let seen = [
+        put,
+        finds_none(alloc, &mut folder, "b"),
+        length(&mut reader) == Some(Ok(6)),
+        puts(&mut folder, "a", b"later"),
+        reads(alloc, &mut reader, 2, b"cdef"),
+        reads(alloc, &mut other, 0, b"abcd"),
+        absorbs(alloc, &mut reader, other),
+        gives_back(alloc, &mut folder, reader),
+        holds(&folder, "a", b"later"),
+    ];
+    assert_eq!(rt; first_false(&seen), None);
 }
