@@ -1,4 +1,4 @@
-// Metadata against worked bytes, and against bytes of another writer.
+// Metadata of another writer, and worked metadata with damaged counts.
 mod digits;
 mod footers;
 mod foreign;
@@ -6,4 +6,3 @@ mod messages;
 mod messages_foreign;
 mod refusals;
 mod refusals_foreign;
-mod written;

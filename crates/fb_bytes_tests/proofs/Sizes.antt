@@ -6,22 +6,10 @@ use Rattle.fb_bytes.specs.Layout.{Laid, Offset, round_up, filled, vtable, table_
 use Rattle.fb_bytes.specs.Object.{laid, buffer}
 use Rattle.fb_bytes.specs.ReadBack.{AreParts}
 use Rattle.fb_bytes.proofs.LawProofs.{length_laws, near_laws}
-use Rattle.fb_bytes_tests.specs.Worked.{int, column, schema, schema_message, record_batch, record_message, footer, widths, one_text}
+use Rattle.fb_bytes_tests.specs.Worked.{widths, one_text}
 
 pub small : (o : FbObject) (l : Laid) → laid o ≡ l → length (buffer_of l) < 2 ^ 31 → length (buffer o) < 2 ^ 31
 small o l e h = subst (λ (x : Laid). length (buffer_of x) < 2 ^ 31) (sym e) h
-
-pub schema_message_small : length (buffer_of schema_message) < 2 ^ 31
-unfolding schema_message schema column int round_up filled vtable table_place table_end table_own table_laid tables_laid structs_laid text_laid buffer_of
-schema_message_small = lit< tt
-
-pub record_message_small : length (buffer_of record_message) < 2 ^ 31
-unfolding record_message record_batch round_up filled vtable table_place table_end table_own table_laid tables_laid structs_laid text_laid buffer_of
-record_message_small = lit< tt
-
-pub footer_small : length (buffer_of footer) < 2 ^ 31
-unfolding footer schema column int round_up filled vtable table_place table_end table_own table_laid tables_laid structs_laid text_laid buffer_of
-footer_small = lit< tt
 
 pub widths_small : length (buffer_of widths) < 2 ^ 31
 unfolding widths round_up filled vtable table_place table_end table_own table_laid tables_laid structs_laid text_laid buffer_of

@@ -7,5 +7,5 @@ mod messages;
 mod plans;
 
 pub use files::THREE_ROWS_FILE;
-pub use messages::{FOOTER, RECORD_MESSAGE, SCHEMA_MESSAGE};
-pub use plans::{CHAIN_TOO_DEEP, READABLE_CHAIN, THREE_ROWS_PLAN};
+pub use messages::{FOOTER, RECORD_MESSAGE};
+pub use plans::THREE_ROWS_PLAN;

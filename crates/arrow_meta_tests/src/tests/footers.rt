@@ -1,14 +1,12 @@
 // Footers of another writer, column by column.
-ghost use Rattle.std.specs.Prelude.{◌<◌, ◌^◌};
-
 use super::digits::bytes_of;
 use super::foreign::{INDEXED, PLAIN, TYPED};
 use arrow_meta::{Block, FieldMeta, Layout, Shape, read_footer};
-use std::test::Fail;
+use std::alloc::Global;
 use sub_types::Kind;
 
 // The columns have these names, nullable flags and kinds, and this layout.
-pub(super) fn are_known(fields: &[FieldMeta], layout: Layout, want: &[(&str, bool, Kind)]) -> bool {
+fn are_known(fields: &[FieldMeta], layout: Layout, want: &[(&str, bool, Kind)]) -> bool {
     if fields.len() != want.len() {
         return false;
     }
@@ -58,7 +56,7 @@ fn are_skipped(fields: &[FieldMeta], names: &[&str]) -> bool {
     true
 }
 
-pub(super) fn are_blocks(blocks: &[Block], want: &[(i64, i32, i64)]) -> bool {
+fn are_blocks(blocks: &[Block], want: &[(i64, i32, i64)]) -> bool {
     if blocks.len() != want.len() {
         return false;
     }
@@ -165,29 +163,43 @@ fn are_indexed(fields: &[FieldMeta]) -> bool {
         && are_skipped(&fields[9..], &INDEXED_SKIPPED)
 }
 
-#[test]
-fn every_tag(rt: HostRuntime) -> Result<(), Fail> {
-    let bytes = bytes_of(rt.alloc(), PLAIN)?;
-    let (schema, dictionaries, records) = read_footer(rt.alloc(), &bytes)?;
-    assert!(rt; are_plain(schema.columns.fields()));
-    assert!(rt; are_blocks(&dictionaries, &[(8, 200, 64), (272, 200, 0)]));
-    assert!(rt; are_blocks(&records, &[(472, 160, 1 << 33), (1 << 62, -1, -2)]));
-    Ok(())
+fn is_plain(alloc: Global) -> bool {
+    let Some(bytes) = bytes_of(alloc, PLAIN) else {
+        return false;
+    };
+    match read_footer(alloc, &bytes) {
+        Ok((schema, dictionaries, records)) => are_plain(schema.columns.fields())
+            && are_blocks(&dictionaries, &[(8, 200, 64), (272, 200, 0)])
+            && are_blocks(&records, &[(472, 160, 1 << 33), (1 << 62, -1, -2)]),
+        Err(_) => false,
+    }
+}
+
+fn is_typed(alloc: Global) -> bool {
+    let Some(bytes) = bytes_of(alloc, TYPED) else {
+        return false;
+    };
+    match read_footer(alloc, &bytes) {
+        Ok((schema, dictionaries, records)) => are_typed(schema.columns.fields())
+            && dictionaries.is_empty()
+            && records.is_empty(),
+        Err(_) => false,
+    }
+}
+
+fn is_indexed(alloc: Global) -> bool {
+    let Some(bytes) = bytes_of(alloc, INDEXED) else {
+        return false;
+    };
+    match read_footer(alloc, &bytes) {
+        Ok((schema, _dictionaries, _records)) => are_indexed(schema.columns.fields()),
+        Err(_) => false,
+    }
 }
 
 #[test]
-fn by_type_table(rt: HostRuntime) -> Result<(), Fail> {
-    let bytes = bytes_of(rt.alloc(), TYPED)?;
-    let (schema, dictionaries, records) = read_footer(rt.alloc(), &bytes)?;
-    let no_blocks = dictionaries.is_empty() && records.is_empty();
-    assert!(rt; no_blocks && are_typed(schema.columns.fields()));
-    Ok(())
-}
-
-#[test]
-fn under_dictionaries(rt: HostRuntime) -> Result<(), Fail> {
-    let bytes = bytes_of(rt.alloc(), INDEXED)?;
-    let (schema, _dictionaries, _records) = read_footer(rt.alloc(), &bytes)?;
-    assert!(rt; are_indexed(schema.columns.fields()));
-    Ok(())
+fn every_tag_type_table_and_dictionary(rt: HostRuntime) {
+    assert!(rt; is_plain(rt.alloc()));
+    assert!(rt; is_typed(rt.alloc()));
+    assert!(rt; is_indexed(rt.alloc()));
 }

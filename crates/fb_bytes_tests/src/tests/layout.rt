@@ -1,12 +1,10 @@
 // What is written, against bytes that were worked out by hand.
 ghost use Rattle.std.specs.Prelude.{◌<◌, length};
 
-use super::objects::{footer, one_text, record_message, schema_message, widths};
+use super::objects::{one_text, widths};
 use fb_bytes::fb_write;
 use std::alloc::Global;
-use std::test::Fail;
 use sub_types::NoMemory;
-use test_bytes::{FOOTER, RECORD_MESSAGE, SCHEMA_MESSAGE};
 
 // A vtable of seven slots, the table at 20, and in it 8, 8, 4, 2, 1 and 1 bytes.
 const WIDTHS: [u8; 56] = [
@@ -35,52 +33,60 @@ fn text_buffer(alloc: Global, text: &[u8]) -> Result<Vec<u8>, NoMemory>
     fb_write(alloc, &root)
 }
 
-#[test]
-fn schema_message_as_worked(rt: HostRuntime) -> Result<(), Fail> {
-    let root = schema_message(rt.alloc())?;
-    let bytes = fb_write(rt.alloc(), &root)?;
-    assert_eq!(rt; bytes.as_slice(), SCHEMA_MESSAGE.as_slice());
-    Ok(())
+// The buffer of a table with numbers of all widths.
+fn widths_buffer(alloc: Global) -> Result<Vec<u8>, NoMemory> {
+    let root = widths(alloc)?;
+    fb_write(alloc, &root)
 }
 
-#[test]
-fn record_message_as_worked(rt: HostRuntime) -> Result<(), Fail> {
-    let root = record_message(rt.alloc())?;
-    let bytes = fb_write(rt.alloc(), &root)?;
-    assert_eq!(rt; bytes.as_slice(), RECORD_MESSAGE.as_slice());
-    Ok(())
-}
-
-#[test]
-fn footer_as_worked(rt: HostRuntime) -> Result<(), Fail> {
-    let root = footer(rt.alloc())?;
-    let bytes = fb_write(rt.alloc(), &root)?;
-    assert_eq!(rt; bytes.as_slice(), FOOTER.as_slice());
-    Ok(())
-}
-
-#[test]
-fn numbers_by_width(rt: HostRuntime) -> Result<(), Fail> {
-    let root = widths(rt.alloc())?;
-    let bytes = fb_write(rt.alloc(), &root)?;
-    assert_eq!(rt; bytes.as_slice(), WIDTHS.as_slice());
-    Ok(())
-}
-
-#[test]
-fn texts_of_every_length_modulo_8(rt: HostRuntime) -> Result<(), Fail> {
-    let letters = *b"abcdefgh";
-    let sizes = [8, 8, 8, 8, 16, 16, 16, 16, 16];
-    for (n, size) in sizes.iter().enumerate() {
-        assert!(rt; n <= 8);
-        let text = &letters[..n];
-        let bytes = text_buffer(rt.alloc(), text)?;
-        assert_eq!(rt; bytes.len(), 32 + *size);
-        assert!(rt; bytes.starts_with(&BEFORE_TEXT));
-        assert!(rt; bytes.len() >= 36 + n);
-        assert_eq!(rt; &bytes[32..36], [n as u8, 0, 0, 0].as_slice());
-        assert_eq!(rt; &bytes[36..36 + n], text);
-        assert!(rt; bytes[36 + n..].iter().all(|b| *b == 0));
+fn has_widths(alloc: Global) -> bool {
+    match widths_buffer(alloc) {
+        Ok(bytes) => bytes.as_slice() == WIDTHS.as_slice(),
+        Err(_) => false,
     }
-    Ok(())
+}
+
+// Whether a short text is laid out in so many bytes, filled up with zeros.
+fn is_laid(alloc: Global, text: &[u8], size: usize) -> bool {
+    if text.len() >= 64 {
+        return false;
+    }
+    match text_buffer(alloc, text) {
+        Ok(bytes) => is_around(&bytes, text, size),
+        Err(_) => false,
+    }
+}
+
+// Whether the text stands behind what is before it and its length, and only zeros behind it.
+fn is_around(bytes: &[u8], text: &[u8], size: usize) -> bool {
+    let Some(laid) = bytes.strip_prefix(&BEFORE_TEXT) else {
+        return false;
+    };
+    let [length, 0, 0, 0, rest @ ..] = laid else {
+        return false;
+    };
+    let Some(filled) = rest.strip_prefix(text) else {
+        return false;
+    };
+    laid.len() == size && usize::from(*length) == text.len() && filled.iter().all(|b| *b == 0)
+}
+
+#[test]
+fn numbers_by_width_and_texts_of_every_length_modulo_8(rt: HostRuntime) {
+    assert!(rt; has_widths(rt.alloc()));
+    let sizes = [8, 8, 8, 8, 16, 16, 16, 16, 16];
+    let texts: [&[u8]; 9] = [
+        b"",
+        b"a",
+        b"ab",
+        b"abc",
+        b"abcd",
+        b"abcde",
+        b"abcdef",
+        b"abcdefg",
+        b"abcdefgh",
+    ];
+    for (text, size) in texts.iter().zip(sizes) {
+        assert!(rt; is_laid(rt.alloc(), text, size));
+    }
 }

@@ -1,8 +1,5 @@
 // Buffers of another writer, written out by hand, and hostile bytes with the place that each is refused at.
-ghost use Rattle.std.specs.Prelude.{◌<◌, ◌^◌, length};
-
-use fb_bytes::{BadBuffer, Table};
-use std::test::Fail;
+use fb_bytes::{BadBuffer, FbVector, Table};
 use test_bytes::FOOTER;
 
 // Two tables that share one vtable, which stands behind them; in both slot 1 stands before slot 0.
@@ -38,91 +35,202 @@ const LARGEST_COUNT: [u8; 24] = [
     0x04, 0x00, 0x00, 0x00, 0xFF, 0xFF, 0xFF, 0xFF, //
 ];
 
-// The place that a reading was refused at.
-fn refused_at<T: Drop>(read: Result<T, BadBuffer>) -> Option<i64> {
+// What a reading gave, with the place that it was refused at.
+fn placed<T: Drop>(read: Result<T, BadBuffer>) -> Result<T, i64> {
     match read {
-        Ok(_) => None,
-        Err(bad) => Some(bad.place),
+        Ok(found) => Ok(found),
+        Err(bad) => Err(bad.place),
     }
 }
 
-// The one column of a footer's schema.
-fn column(footer: &[u8]) -> Result<Table<'_>, Fail>
-    requires { length footer.now < 2 ^ 31 }
-{
-    let schema = Table::root(footer)?.table(1)?.ok_or("no schema")?;
-    let fields = schema.vector(1, 4)?.ok_or("no fields")?;
-    if fields.len() != 1 {
-        return Err(Fail::from("not one field"));
+// The root table of a buffer, which is short.
+fn root(bytes: &[u8]) -> Result<Table<'_>, i64> {
+    if bytes.len() >= 4096 {
+        return Err(0);
     }
-    Ok(fields.table_at(0)?)
+    placed(Table::root(bytes))
+}
+
+// What stands in a slot as a number of so many bytes, or `None` where there is no table.
+fn number(table: &Option<Table<'_>>, slot: u16, width: u8) -> Option<Result<Option<u64>, i64>> {
+    let Some(table) = table else {
+        return None;
+    };
+    match width {
+        1 => Some(placed(table.scalar(slot, 1))),
+        2 => Some(placed(table.scalar(slot, 2))),
+        4 => Some(placed(table.scalar(slot, 4))),
+        8 => Some(placed(table.scalar(slot, 8))),
+        _ => None,
+    }
+}
+
+fn has_number(table: &Option<Table<'_>>, slot: u16, width: u8, want: u64) -> bool {
+    number(table, slot, width) == Some(Ok(Some(want)))
+}
+
+fn has_no_number(table: &Option<Table<'_>>, slot: u16, width: u8) -> bool {
+    number(table, slot, width) == Some(Ok(None))
+}
+
+// The table in a slot, where one is there.
+fn table_in<'a>(table: &Option<Table<'a>>, slot: u16) -> Option<Table<'a>> {
+    match table {
+        Some(table) => match table.table(slot) {
+            Ok(found) => found,
+            Err(_) => None,
+        },
+        None => None,
+    }
+}
+
+// Whether a slot has no table in it, and can be read.
+fn has_no_table(table: &Option<Table<'_>>, slot: u16) -> bool {
+    match table {
+        Some(table) => match table.table(slot) {
+            Ok(found) => found.is_none(),
+            Err(_) => false,
+        },
+        None => false,
+    }
+}
+
+// The only table of the vector in a slot.
+fn only_table<'a>(table: &Option<Table<'a>>, slot: u16) -> Option<Table<'a>> {
+    let Some(table) = table else {
+        return None;
+    };
+    let Ok(Some(tables)) = table.vector(slot, 4) else {
+        return None;
+    };
+    if tables.len() != 1 {
+        return None;
+    }
+    tables.table_at(0).ok()
+}
+
+// Whether the text in a slot is this one, or whether there is none.
+fn has_text(table: &Option<Table<'_>>, slot: u16, want: Option<&[u8]>) -> bool {
+    match table {
+        Some(table) => match table.text(slot) {
+            Ok(found) => found == want,
+            Err(_) => false,
+        },
+        None => false,
+    }
+}
+
+// The vector in a slot, where one is there.
+fn vector_in<'a>(table: &Option<Table<'a>>, slot: u16, width: u32) -> Option<FbVector<'a>> {
+    match table {
+        Some(table) => match table.vector(slot, width) {
+            Ok(found) => found,
+            Err(_) => None,
+        },
+        None => None,
+    }
+}
+
+// Whether a slot has no vector in it, and can be read.
+fn has_no_vector(table: &Option<Table<'_>>, slot: u16) -> bool {
+    match table {
+        Some(table) => match table.vector(slot, 8) {
+            Ok(found) => found.is_none(),
+            Err(_) => false,
+        },
+        None => false,
+    }
+}
+
+// Whether the vector is there and has so many items, with these bytes together.
+fn has_elements(vector: &Option<FbVector<'_>>, count: u32, bytes: &[u8]) -> bool {
+    match vector {
+        Some(vector) => vector.len() == count
+            && vector.is_empty() == (count == 0)
+            && vector.elements() == bytes,
+        None => false,
+    }
+}
+
+// Whether an item of the vector has these bytes.
+fn has_item(vector: &Option<FbVector<'_>>, place: u32, bytes: &[u8]) -> bool {
+    match vector {
+        Some(vector) => place < vector.len() && vector.item(place) == bytes,
+        None => false,
+    }
+}
+
+// Where the table in a slot is refused.
+fn table_refusal(table: &Option<Table<'_>>, slot: u16) -> Option<i64> {
+    match table {
+        Some(table) => placed(table.table(slot)).err(),
+        None => None,
+    }
+}
+
+// Where the vector in a slot is refused, and where the text.
+fn refusals(table: &Option<Table<'_>>, slot: u16, width: u32) -> [Option<i64>; 2] {
+    match table {
+        Some(table) => [
+            placed(table.vector(slot, width)).err(),
+            placed(table.text(slot)).err(),
+        ],
+        None => [None; 2],
+    }
+}
+
+// Which of these doesn't hold, if one doesn't.
+fn first_false(seen: &[bool]) -> Option<usize> {
+    seen.iter().position(|holds| !*holds)
 }
 
 #[test]
-fn footer_reads(rt: HostRuntime) -> Result<(), Fail> {
-    let root = Table::root(&FOOTER)?;
-    assert_eq!(rt; root.scalar(0, 2)?, Some(4));
-    let blocks = root.vector(3, 24)?.ok_or("no blocks")?;
-    assert_eq!(rt; blocks.len(), 1);
-    assert_eq!(rt; blocks.item(0), &FOOTER[168..]);
-    assert_eq!(rt; blocks.elements().len(), 24);
-    Ok(())
+fn footer_of_one_column(rt: HostRuntime) {
+    let footer = root(&FOOTER).ok();
+    let blocks = vector_in(&footer, 3, 24);
+    let column = only_table(&table_in(&footer, 1), 1);
+    let int = table_in(&column, 3);
+    let seen = [
+        has_number(&footer, 0, 2, 4),
+        has_elements(&blocks, 1, &FOOTER[168..]),
+        has_item(&blocks, 0, &FOOTER[168..]),
+        has_text(&column, 0, Some(b"x")),
+        has_number(&column, 2, 1, 2),
+        has_number(&int, 0, 4, 64),
+        // It has no dictionary and no children.
+        has_no_table(&column, 4),
+        has_elements(&vector_in(&column, 5, 4), 0, b""),
+    ];
+    assert_eq!(rt; first_false(&seen), None);
 }
 
 #[test]
-fn column_reads(rt: HostRuntime) -> Result<(), Fail> {
-    let column = column(&FOOTER)?;
-    assert_eq!(rt; column.text(0)?, Some(b"x".as_slice()));
-    assert_eq!(rt; column.scalar(2, 1)?, Some(2));
-    let int = column.table(3)?.ok_or("no type")?;
-    assert_eq!(rt; int.scalar(0, 4)?, Some(64));
-    Ok(())
-}
-
-#[test]
-fn column_without_dictionary_or_children(rt: HostRuntime) -> Result<(), Fail> {
-    let column = column(&FOOTER)?;
-    assert!(rt; column.table(4)?.is_none());
-    let children = column.vector(5, 4)?.ok_or("no children")?;
-    assert!(rt; children.is_empty());
-    Ok(())
-}
-
-#[test]
-fn shared_vtable_behind_its_tables(rt: HostRuntime) -> Result<(), Fail> {
-    let root = Table::root(&SHARED_VTABLE)?;
-    assert_eq!(rt; root.scalar(0, 1)?, Some(42));
-    assert_eq!(rt; root.scalar(0, 2)?, Some(42));
-    assert_eq!(rt; root.scalar(0, 4)?, Some(42));
-    assert_eq!(rt; root.scalar(0, 8)?, Some(0xFFFF_FFF4_0000_002A));
-    assert_eq!(rt; root.scalar(2, 1)?, None);
-    assert_eq!(rt; root.scalar(u16::MAX, 1)?, None);
-    let other = root.table(1)?.ok_or("no table")?;
-    assert_eq!(rt; other.scalar(0, 4)?, Some(9));
-    assert_eq!(rt; other.scalar(1, 4)?, Some(7));
-    Ok(())
-}
-
-#[test]
-fn text_and_structs_of_another_writer(rt: HostRuntime) -> Result<(), Fail> {
-    let root = Table::root(&TEXT_AND_STRUCTS)?;
-    assert_eq!(rt; root.text(0)?, Some(b"abc".as_slice()));
-    let structs = root.vector(1, 2)?.ok_or("no structs")?;
-    assert_eq!(rt; structs.len(), 2);
-    assert_eq!(rt; structs.item(0), [1u8, 2].as_slice());
-    assert_eq!(rt; structs.item(1), [3u8, 4].as_slice());
-    assert_eq!(rt; root.text(2)?, None);
-    assert!(rt; root.vector(2, 8)?.is_none());
-    assert!(rt; root.table(7)?.is_none());
-    Ok(())
-}
-
-#[test]
-fn half_an_entry_is_absent(rt: HostRuntime) -> Result<(), Fail> {
-    let root = Table::root(&ODD_VTABLE)?;
-    assert_eq!(rt; root.scalar(0, 4)?, Some(42));
-    assert_eq!(rt; root.scalar(1, 4)?, None);
-    Ok(())
+fn buffers_of_another_writer(rt: HostRuntime) {
+    let shared = root(&SHARED_VTABLE).ok();
+    let other = table_in(&shared, 1);
+    let seen = [
+        has_number(&shared, 0, 1, 42),
+        has_number(&shared, 0, 2, 42),
+        has_number(&shared, 0, 4, 42),
+        has_number(&shared, 0, 8, 0xFFFF_FFF4_0000_002A),
+        has_no_number(&shared, 2, 1),
+        has_no_number(&shared, u16::MAX, 1),
+        has_number(&other, 0, 4, 9),
+        has_number(&other, 1, 4, 7),
+    ];
+    assert_eq!(rt; first_false(&seen), None);
+    let root = root(&TEXT_AND_STRUCTS).ok();
+    let structs = vector_in(&root, 1, 2);
+    let seen = [
+        has_text(&root, 0, Some(b"abc")),
+        has_elements(&structs, 2, &[1, 2, 3, 4]),
+        has_item(&structs, 0, &[1, 2]),
+        has_item(&structs, 1, &[3, 4]),
+        has_text(&root, 2, None),
+        has_no_vector(&root, 2),
+        has_no_table(&root, 7),
+    ];
+    assert_eq!(rt; first_false(&seen), None);
 }
 
 #[test]
@@ -152,30 +260,27 @@ fn hostile_roots(rt: HostRuntime) {
         ),
     ];
     for (bytes, place) in buffers {
-        assert!(rt; bytes.len() < 16);
-        assert_eq!(rt; refused_at(Table::root(bytes)), Some(place));
+        assert!(rt; root(bytes).err() == Some(place));
     }
 }
 
 #[test]
-fn hostile_fields(rt: HostRuntime) -> Result<(), Fail> {
-    let root = Table::root(&ODD_VTABLE)?;
-    assert_eq!(rt; refused_at(root.scalar(0, 8)), Some(16));
-    assert_eq!(rt; refused_at(root.table(0)), Some(58));
-    assert_eq!(rt; refused_at(root.vector(0, 1)), Some(58));
-    assert_eq!(rt; refused_at(root.text(0)), Some(58));
-    Ok(())
-}
-
-#[test]
-fn largest_counts(rt: HostRuntime) -> Result<(), Fail> {
-    let root = Table::root(&LARGEST_COUNT)?;
-    assert_eq!(rt; refused_at(root.vector(0, 1)), Some(20));
-    assert_eq!(rt; refused_at(root.vector(0, 4)), Some(20));
-    assert_eq!(rt; refused_at(root.vector(0, u32::MAX)), Some(20));
-    assert_eq!(rt; refused_at(root.text(0)), Some(20));
-    let empty = root.vector(0, 0)?.ok_or("no vector")?;
-    assert_eq!(rt; empty.len(), u32::MAX);
-    assert_eq!(rt; empty.item(u32::MAX - 1), [].as_slice());
-    Ok(())
+fn hostile_fields(rt: HostRuntime) {
+    let odd = root(&ODD_VTABLE).ok();
+    let largest = root(&LARGEST_COUNT).ok();
+    let empty = vector_in(&largest, 0, 0);
+    let seen = [
+        has_number(&odd, 0, 4, 42),
+        // Half an entry is none.
+        has_no_number(&odd, 1, 4),
+        number(&odd, 0, 8) == Some(Err(16)),
+        table_refusal(&odd, 0) == Some(58),
+        refusals(&odd, 0, 1) == [Some(58); 2],
+        refusals(&largest, 0, 1) == [Some(20); 2],
+        refusals(&largest, 0, 4) == [Some(20); 2],
+        refusals(&largest, 0, u32::MAX) == [Some(20); 2],
+        has_elements(&empty, u32::MAX, b""),
+        has_item(&empty, u32::MAX - 1, b""),
+    ];
+    assert_eq!(rt; first_false(&seen), None);
 }

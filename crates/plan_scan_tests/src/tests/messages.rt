@@ -1,38 +1,34 @@
 // The payload rules, on messages that were worked out by hand.
-ghost use Rattle.std.specs.Prelude.{◌≡◌, IfOk, IfSome};
+ghost use Rattle.std.specs.Prelude.{◌≡◌, IfSome};
 
 use plan_scan::{Merged, Message, OneOf, Shape};
 use std::alloc::Global;
-use std::test::Fail;
+use sub_types::{ByteList, NoMemory, Word};
 use test_bytes::THREE_ROWS_PLAN;
 
 // The plan that the bytes are.
-fn plan<'a>(bytes: &'a [u8]) -> Result<Message<'a>, Fail>
-    ensures { IfOk result (λ plan. plan.shape ≡ Shape.Plan) }
+fn plan<'a>(bytes: &'a [u8]) -> Option<Message<'a>>
+    ensures { IfSome result (λ plan. plan.shape ≡ Shape.Plan) }
 {
-    Ok(Message::plan(bytes)?)
+    Message::plan(bytes).ok()
 }
 
 // The first URI of a plan, whose fields are an anchor 1 and a text 2.
-fn first_uri<'a>(bytes: &'a [u8]) -> Result<Message<'a>, Fail>
-    ensures { IfOk result (λ uri. uri.shape ≡ Shape.ExtensionUri) }
+fn first_uri<'a>(bytes: &'a [u8]) -> Option<Message<'a>>
+    ensures { IfSome result (λ uri. uri.shape ≡ Shape.ExtensionUri) }
 {
-    let plan = plan(bytes)?;
-    let mut uris = plan.children(1, Shape::ExtensionUri);
-    match uris.next() {
-        Some(uri) => Ok(uri),
-        None => Err("no URI")?,
-    }
+    let mut uris = plan(bytes)?.children(1, Shape::ExtensionUri);
+    uris.next()
 }
 
 // The field 1 of the first URI as a number of each type.
-fn numbers_of(rt: &HostRuntime, bytes: &[u8]) -> Result<(u32, i32, i64, bool), Fail> {
+fn numbers_of(bytes: &[u8]) -> Option<(u32, i32, i64, bool)> {
     let uri = first_uri(bytes)?;
-    Ok((uri.uint32(1), uri.int32(1), uri.int64(1), uri.boolean(1)))
+    Some((uri.uint32(1), uri.int32(1), uri.int64(1), uri.boolean(1)))
 }
 
 #[test]
-fn numbers_of_each_type(rt: HostRuntime) -> Result<(), Fail> {
+fn numbers_of_each_type(rt: HostRuntime) {
     let uris: [(&[u8], (u32, i32, i64, bool)); 6] = [
         // 5, then 7, then as four bytes, as eight, and as a block, which are skipped.
         (
@@ -60,172 +56,195 @@ fn numbers_of_each_type(rt: HostRuntime) -> Result<(), Fail> {
         (&[0x0A, 0x02, 0x18, 0x05], (0, 0, 0, false)),
     ];
     for (bytes, want) in uris {
-        assert_eq!(rt; numbers_of(&rt, bytes)?, want, "of {bytes:?}");
+        assert!(rt; numbers_of(bytes) == Some(want));
     }
-    Ok(())
 }
 
 // Whether the field 2 of the first URI has this last text, and so many texts.
-fn has_texts(rt: &HostRuntime, bytes: &[u8], last: &str, count: usize) -> Result<bool, Fail> {
-    let uri = first_uri(bytes)?;
-    if uri.has(2) != (count > 0) || uri.bytes(2) != last.as_bytes() {
-        return Ok(false);
+fn has_texts(alloc: Global, bytes: &[u8], last: &str, count: usize) -> bool {
+    let Some(uri) = first_uri(bytes) else {
+        return false;
+    };
+    uri.has(2) == (count > 0)
+        && uri.bytes(2) == last.as_bytes()
+        && is_list(uri.byte_list(alloc, 2), last)
+        && is_text(uri.text(alloc, 2), last)
+        && are_so_many(uri.texts(alloc, 2), count)
+}
+
+fn is_list(found: Result<ByteList, NoMemory>, want: &str) -> bool {
+    match found {
+        Ok(list) => list.bytes() == want.as_bytes(),
+        Err(_) => false,
     }
-    if uri.byte_list(rt.alloc(), 2)?.bytes() != last.as_bytes() {
-        return Ok(false);
+}
+
+fn is_text(found: Result<Word, NoMemory>, want: &str) -> bool {
+    match found {
+        Ok(word) => word.text() == want,
+        Err(_) => false,
     }
-    Ok(uri.text(rt.alloc(), 2)?.text() == last && uri.texts(rt.alloc(), 2)?.len() == count)
+}
+
+fn are_so_many(found: Result<Vec<ByteList>, NoMemory>, count: usize) -> bool {
+    match found {
+        Ok(texts) => texts.len() == count,
+        Err(_) => false,
+    }
 }
 
 #[test]
-fn last_text_counts(rt: HostRuntime) -> Result<(), Fail> {
+fn last_text_counts(rt: HostRuntime) {
     // The texts `a` and `bc` with a field between them that isn't named.
     let two = [
         0x0A, 0x0B, 0x12, 0x01, 0x61, 0x1A, 0x02, 0xC3, 0x28, 0x12, 0x02, 0x62, 0x63,
     ];
-    assert!(rt; has_texts(&rt, &two, "bc", 2)?);
+    assert!(rt; has_texts(rt.alloc(), &two, "bc", 2));
     // The text as a number, which is skipped.
-    assert!(rt; has_texts(&rt, &[0x0A, 0x02, 0x10, 0x05], "", 0)?);
-    assert!(rt; has_texts(&rt, &[0x0A, 0x02, 0x12, 0x00], "", 1)?);
-    Ok(())
+    assert!(rt; has_texts(rt.alloc(), &[0x0A, 0x02, 0x10, 0x05], "", 0));
+    assert!(rt; has_texts(rt.alloc(), &[0x0A, 0x02, 0x12, 0x00], "", 1));
 }
 
 // Whether the field 5 of the first URI has these numbers.
-fn has_numbers(
-    rt: &HostRuntime,
-    bytes: &[u8],
-    signed: &[i32],
-    unsigned: &[u32],
-) -> Result<bool, Fail> {
-    let uri = first_uri(bytes)?;
-    if uri.int32s(rt.alloc(), 5)?.as_slice() != signed {
-        return Ok(false);
+fn has_numbers(alloc: Global, bytes: &[u8], signed: &[i32], unsigned: &[u32]) -> bool {
+    let Some(uri) = first_uri(bytes) else {
+        return false;
+    };
+    are_signed(uri.int32s(alloc, 5), signed) && are_unsigned(uri.uint32s(alloc, 5), unsigned)
+}
+
+fn are_signed(found: Result<Vec<i32>, NoMemory>, want: &[i32]) -> bool {
+    match found {
+        Ok(numbers) => numbers.as_slice() == want,
+        Err(_) => false,
     }
-    Ok(uri.uint32s(rt.alloc(), 5)?.as_slice() == unsigned)
+}
+
+fn are_unsigned(found: Result<Vec<u32>, NoMemory>, want: &[u32]) -> bool {
+    match found {
+        Ok(numbers) => numbers.as_slice() == want,
+        Err(_) => false,
+    }
 }
 
 #[test]
-fn packed_and_unpacked_numbers_mix(rt: HostRuntime) -> Result<(), Fail> {
+fn packed_and_unpacked_numbers_mix(rt: HostRuntime) {
     // 1; then 2, 150 and -1 packed; then 3; then four bytes, which are skipped; then none packed.
     let bytes = [
         0x0A, 0x1A, 0x28, 0x01, 0x2A, 0x0D, 0x02, 0x96, 0x01, 0xFF, 0xFF, 0xFF, 0xFF, 0xFF, 0xFF,
         0xFF, 0xFF, 0xFF, 0x01, 0x28, 0x03, 0x2D, 0x01, 0x02, 0x03, 0x04, 0x2A, 0x00,
     ];
-    assert!(rt;
-        has_numbers(
-            &rt,
-            &bytes,
-            &[1, 2, 150, -1, 3],
-            &[1, 2, 150, 4_294_967_295, 3]
-        )?
-    );
-    assert!(rt; has_numbers(&rt, &[0x0A, 0x00], &[], &[])?);
-    Ok(())
+    let unsigned = [1, 2, 150, 4_294_967_295, 3];
+    assert!(rt; has_numbers(rt.alloc(), &bytes, &[1, 2, 150, -1, 3], &unsigned));
+    assert!(rt; has_numbers(rt.alloc(), &[0x0A, 0x00], &[], &[]));
 }
 
 // The root of the first relation of a plan, whose fields are an input 1 and names 2.
-fn first_root<'a>(rt: &HostRuntime, bytes: &'a [u8]) -> Result<Option<Merged<'a>>, Fail>
-    ensures { IfOk result (λ found. IfSome found (λ root. root.shape ≡ Shape.RelRoot)) }
+fn first_root<'a>(alloc: Global, bytes: &'a [u8]) -> Option<Merged<'a>>
+    ensures { IfSome result (λ root. root.shape ≡ Shape.RelRoot) }
 {
-    let plan = plan(bytes)?;
-    let mut relations = plan.children(3, Shape::PlanRel);
-    let Some(relation) = relations.next() else {
-        return Ok(None);
-    };
-    match relation.oneof(OneOf::PlanRelType) {
-        Some((2, won)) => Ok(won.merged(rt.alloc(), 2, Shape::RelRoot)?),
-        _ => Ok(None),
+    let mut relations = plan(bytes)?.children(3, Shape::PlanRel);
+    let (number, won) = relations.next()?.oneof(OneOf::PlanRelType)?;
+    if number != 2 {
+        return None;
     }
+    won.merged(alloc, 2, Shape::RelRoot).ok()?
 }
 
 // Whether the first relation of a plan is a root with just these names.
-fn has_names(rt: &HostRuntime, bytes: &[u8], names: &[&[u8]]) -> Result<bool, Fail> {
-    let Some(root) = first_root(rt, bytes)? else {
-        return Ok(false);
+fn has_names(alloc: Global, bytes: &[u8], names: &[&[u8]]) -> bool {
+    match first_root(alloc, bytes) {
+        Some(root) => are_names(root.message().texts(alloc, 2), names),
+        None => false,
+    }
+}
+
+fn are_names(found: Result<Vec<ByteList>, NoMemory>, names: &[&[u8]]) -> bool {
+    let Ok(found) = found else {
+        return false;
     };
-    let found = root.message().texts(rt.alloc(), 2)?;
     if found.len() != names.len() {
-        return Ok(false);
+        return false;
     }
     for (name, want) in found.iter().zip(names) {
         if name.bytes() != *want {
-            return Ok(false);
+            return false;
         }
     }
-    Ok(true)
+    true
+}
+
+fn has_no_root(alloc: Global, bytes: &[u8]) -> bool {
+    first_root(alloc, bytes).is_none()
 }
 
 #[test]
-fn singular_messages_are_merged(rt: HostRuntime) -> Result<(), Fail> {
+fn singular_messages_are_merged(rt: HostRuntime) {
     // A root in three records, the second empty: the names `a` and `b`, none, and the name `c`.
     let bytes = [
         0x1A, 0x0F, 0x12, 0x06, 0x12, 0x01, 0x61, 0x12, 0x01, 0x62, 0x12, 0x00, 0x12, 0x03, 0x12,
         0x01, 0x63,
     ];
-    assert!(rt; has_names(&rt, &bytes, &[b"a", b"b", b"c"])?);
+    assert!(rt; has_names(rt.alloc(), &bytes, &[b"a", b"b", b"c"]));
     // A root that is there and empty, and none.
-    assert!(rt; has_names(&rt, &[0x1A, 0x02, 0x12, 0x00], &[])?);
-    assert!(rt; first_root(&rt, &[0x1A, 0x00])?.is_none());
-    Ok(())
+    assert!(rt; has_names(rt.alloc(), &[0x1A, 0x02, 0x12, 0x00], &[]));
+    assert!(rt; has_no_root(rt.alloc(), &[0x1A, 0x00]));
 }
 
 #[test]
-fn last_member_wins(rt: HostRuntime) -> Result<(), Fail> {
+fn last_member_wins(rt: HostRuntime) {
     // Roots with the names `a` and `b`; a relation; roots with the names `c` and `d`.
     let bytes = [
         0x1A, 0x16, 0x12, 0x03, 0x12, 0x01, 0x61, 0x12, 0x03, 0x12, 0x01, 0x62, 0x0A, 0x00, 0x12,
         0x03, 0x12, 0x01, 0x63, 0x12, 0x03, 0x12, 0x01, 0x64,
     ];
-    assert!(rt; has_names(&rt, &bytes, &[b"c", b"d"])?);
+    assert!(rt; has_names(rt.alloc(), &bytes, &[b"c", b"d"]));
     // A relation as a number, and another field, between two roots: neither is a member.
     let skipped = [
         0x1A, 0x0E, 0x12, 0x03, 0x12, 0x01, 0x61, 0x08, 0x05, 0x1A, 0x00, 0x12, 0x03, 0x12, 0x01,
         0x62,
     ];
-    assert!(rt; has_names(&rt, &skipped, &[b"a", b"b"])?);
+    assert!(rt; has_names(rt.alloc(), &skipped, &[b"a", b"b"]));
     // A relation last.
     let relation = [0x1A, 0x04, 0x12, 0x00, 0x0A, 0x00];
-    assert!(rt; first_root(&rt, &relation)?.is_none());
-    Ok(())
+    assert!(rt; has_no_root(rt.alloc(), &relation));
 }
 
 // The number of the winner among the members of the first relation, and how many names its read has: 0 where it isn't one.
-fn relation_of(rt: &HostRuntime, bytes: &[u8]) -> Result<(u32, usize), Fail> {
-    let Some(root) = first_root(rt, bytes)? else {
-        return Ok((0, 0));
+fn relation_of(alloc: Global, bytes: &[u8]) -> Option<(u32, usize)> {
+    let root = first_root(alloc, bytes)?;
+    let relation = root.message().merged(alloc, 1, Shape::Rel).ok()??;
+    let (number, won) = relation.message().oneof(OneOf::RelType)?;
+    let names = match won.merged(alloc, 1, Shape::ReadRel) {
+        Ok(Some(read)) => names_of(alloc, &read)?,
+        _ => 0,
     };
-    let Some(relation) = root.message().merged(rt.alloc(), 1, Shape::Rel)? else {
-        return Ok((0, 0));
-    };
-    let Some((number, won)) = relation.message().oneof(OneOf::RelType) else {
-        return Ok((0, 0));
-    };
-    let Some(read) = won.merged(rt.alloc(), 1, Shape::ReadRel)? else {
-        return Ok((number, 0));
-    };
-    let Some(schema) = read.message().merged(rt.alloc(), 2, Shape::NamedStruct)? else {
-        return Ok((number, 0));
-    };
-    Ok((number, schema.message().texts(rt.alloc(), 1)?.len()))
+    Some((number, names))
+}
+
+// How many names the schema of a read has.
+fn names_of(alloc: Global, read: &Merged<'_>) -> Option<usize>
+    requires { read.now.shape ≡ Shape.ReadRel }
+{
+    match read.message().merged(alloc, 2, Shape::NamedStruct).ok()? {
+        Some(schema) => Some(schema.message().texts(alloc, 1).ok()?.len()),
+        None => Some(0),
+    }
 }
 
 // The same, read as a choice, and how many records of a schema the winner has.
-fn choice_of(rt: &HostRuntime, bytes: &[u8]) -> Result<(u32, usize), Fail> {
-    let Some(root) = first_root(rt, bytes)? else {
-        return Ok((0, 0));
-    };
-    let Some(choice) = root.message().choice_at(rt.alloc(), 1, OneOf::RelType)? else {
-        return Ok((0, 0));
-    };
-    match choice.winner() {
-        None => Ok((0, 0)),
-        Some((number, None)) => Ok((number, 0)),
-        Some((number, Some(message))) => Ok((number, message.texts(rt.alloc(), 2)?.len())),
+fn choice_of(alloc: Global, bytes: &[u8]) -> Option<(u32, usize)> {
+    let root = first_root(alloc, bytes)?;
+    let choice = root.message().choice_at(alloc, 1, OneOf::RelType).ok()??;
+    let (number, won) = choice.winner()?;
+    match won {
+        None => Some((number, 0)),
+        Some(message) => Some((number, message.texts(alloc, 2).ok()?.len())),
     }
 }
 
 #[test]
-fn the_second_read_alone(rt: HostRuntime) -> Result<(), Fail> {
+fn the_second_read_alone(rt: HostRuntime) {
     // With each, how many records the schema of its winner is in.
     let plans: [(&[u8], (u32, usize), usize); 5] = [
         (&THREE_ROWS_PLAN, (1, 1), 1),
@@ -265,39 +284,33 @@ fn the_second_read_alone(rt: HostRuntime) -> Result<(), Fail> {
         ),
     ];
     for (bytes, want, records) in plans {
-        assert_eq!(rt; relation_of(&rt, bytes)?, want, "of {bytes:?}");
-        assert_eq!(rt; choice_of(&rt, bytes)?, (want.0, records), "of {bytes:?}");
+        assert!(rt; relation_of(rt.alloc(), bytes) == Some(want));
+        assert!(rt; choice_of(rt.alloc(), bytes) == Some((want.0, records)));
     }
-    Ok(())
+}
+
+// The first relation of a plan, which isn't a root's.
+fn first_relation<'a>(alloc: Global, bytes: &'a [u8]) -> Option<Merged<'a>>
+    ensures { IfSome result (λ relation. relation.shape ≡ Shape.Rel) }
+{
+    let mut relations = plan(bytes)?.children(3, Shape::PlanRel);
+    relations.next()?.merged(alloc, 1, Shape::Rel).ok()?
 }
 
 // The number of the winner among the members of the literal in the condition of a filter, or 0 where it has none.
-fn literal_of(rt: &HostRuntime, bytes: &[u8]) -> Result<u32, Fail> {
-    let plan = plan(bytes)?;
-    let mut relations = plan.children(3, Shape::PlanRel);
-    let Some(relation) = relations.next() else {
-        return Ok(0);
-    };
-    let Some(rel) = relation.merged(rt.alloc(), 1, Shape::Rel)? else {
-        return Ok(0);
-    };
-    let Some(filter) = rel.message().merged(rt.alloc(), 2, Shape::FilterRel)? else {
-        return Ok(0);
-    };
-    let Some(condition) = filter.message().merged(rt.alloc(), 3, Shape::Expression)? else {
-        return Ok(0);
-    };
-    let Some(literal) = condition.message().merged(rt.alloc(), 1, Shape::Literal)? else {
-        return Ok(0);
-    };
+fn literal_of(alloc: Global, bytes: &[u8]) -> Option<u32> {
+    let relation = first_relation(alloc, bytes)?;
+    let filter = relation.message().merged(alloc, 2, Shape::FilterRel).ok()??;
+    let condition = filter.message().merged(alloc, 3, Shape::Expression).ok()??;
+    let literal = condition.message().merged(alloc, 1, Shape::Literal).ok()??;
     match literal.message().oneof(OneOf::LiteralType) {
-        Some((number, _)) => Ok(number),
-        None => Ok(0),
+        Some((number, _)) => Some(number),
+        None => Some(0),
     }
 }
 
 #[test]
-fn members_of_a_literal(rt: HostRuntime) -> Result<(), Fail> {
+fn members_of_a_literal(rt: HostRuntime) {
     let plans: [(&[u8], u32); 4] = [
         // An i32, then `nullable`, which is no member.
         (
@@ -331,7 +344,6 @@ fn members_of_a_literal(rt: HostRuntime) -> Result<(), Fail> {
         ),
     ];
     for (bytes, want) in plans {
-        assert_eq!(rt; literal_of(&rt, bytes)?, want, "of {bytes:?}");
+        assert!(rt; literal_of(rt.alloc(), bytes) == Some(want));
     }
-    Ok(())
 }

@@ -1,6 +1,5 @@
 // Records: a key, which is the field's number times 8 plus the wire type, and a payload.
 use pb_wire::{Fields, Payload};
-use std::test::Fail;
 
 // One record of each wire type, of the fields 1 to 4.
 const EACH: [u8; 22] = [
@@ -10,64 +9,77 @@ const EACH: [u8; 22] = [
     0x25, 0x01, 0x02, 0x03, 0x04, // 4 * 8 + 5: four bytes
 ];
 
-#[test]
-fn one_record_of_each_wire_type(rt: HostRuntime) -> Result<(), Fail> {
-    let mut fields = Fields::new(&EACH);
-    assert_eq!(rt; fields.place(), 0);
-    let first = fields.next().ok_or("no record")??;
-    assert!(rt; first.place == 0 && first.number == 1);
-    assert!(rt; matches!(first.payload, Payload::Varint(150)));
-    assert_eq!(rt; fields.place(), 3);
-    let second = fields.next().ok_or("no record")??;
-    assert!(rt; second.place == 3 && second.number == 2);
-    assert!(rt; matches!(second.payload, Payload::Eight(0x0807_0605_0403_0201)));
-    assert_eq!(rt; fields.place(), 12);
-    let third = fields.next().ok_or("no record")??;
-    assert!(rt; third.place == 12 && third.number == 3);
-    assert!(rt; matches!(third.payload, Payload::Bytes(b"abc")));
-    assert_eq!(rt; fields.place(), 17);
-    let fourth = fields.next().ok_or("no record")??;
-    assert!(rt; fourth.place == 17 && fourth.number == 4);
-    assert!(rt; matches!(fourth.payload, Payload::Four(0x0403_0201)));
-    assert!(rt; fields.next().is_none());
-    assert!(rt; fields.next().is_none());
-    assert_eq!(rt; fields.place(), 22);
-    Ok(())
+fn is_payload(found: Payload<'_>, want: Payload<'_>) -> bool {
+    match (found, want) {
+        (Payload::Varint(found), Payload::Varint(want)) => found == want,
+        (Payload::Eight(found), Payload::Eight(want)) => found == want,
+        (Payload::Bytes(found), Payload::Bytes(want)) => found == want,
+        (Payload::Four(found), Payload::Four(want)) => found == want,
+        _ => false,
+    }
+}
+
+// Whether the next record stands at this place, and is of this field and holds this.
+fn reads(fields: &mut Fields<'_>, place: usize, number: u32, want: Payload<'_>) -> bool {
+    if fields.place() != place {
+        return false;
+    }
+    match fields.next() {
+        Some(Ok(record)) => record.place == place
+            && record.number == number
+            && is_payload(record.payload, want),
+        _ => false,
+    }
+}
+
+// Whether nothing is left behind this place.
+fn ends(fields: &mut Fields<'_>, place: usize) -> bool {
+    fields.next().is_none() && fields.place() == place
+}
+
+// Whether no record stands at this place, though something does.
+fn is_refused(fields: &mut Fields<'_>, place: usize) -> bool {
+    match fields.next() {
+        Some(Err(found)) => found == place && fields.place() == place,
+        _ => false,
+    }
+}
+
+// Which of these doesn't hold, if one doesn't.
+fn first_false(seen: &[bool]) -> Option<usize> {
+    seen.iter().position(|holds| !*holds)
 }
 
 #[test]
-fn an_empty_message_has_no_records(rt: HostRuntime) {
-    let mut fields = Fields::new(&[]);
-    assert!(rt; fields.next().is_none());
-    assert_eq!(rt; fields.place(), 0);
+fn one_record_of_each_wire_type(rt: HostRuntime) {
+    let mut fields = Fields::new(&EACH);
+    let mut none = Fields::new(&[]);
+    let seen = [
+        reads(&mut fields, 0, 1, Payload::Varint(150)),
+        reads(&mut fields, 3, 2, Payload::Eight(0x0807_0605_0403_0201)),
+        reads(&mut fields, 12, 3, Payload::Bytes(b"abc")),
+        reads(&mut fields, 17, 4, Payload::Four(0x0403_0201)),
+        ends(&mut fields, 22),
+        ends(&mut fields, 22),
+        ends(&mut none, 0),
+    ];
+    assert_eq!(rt; first_false(&seen), None);
 }
 
 // The largest field number, 2^29 - 1, whose key 2^32 - 8 takes five bytes; then no bytes; then the field once more.
 #[test]
-fn largest_number_and_no_bytes(rt: HostRuntime) -> Result<(), Fail> {
+fn largest_number_and_no_bytes(rt: HostRuntime) {
     let bytes = [
         0xF8, 0xFF, 0xFF, 0xFF, 0x0F, 0x00, 0x0A, 0x00, 0xF8, 0xFF, 0xFF, 0xFF, 0x0F, 0x07,
     ];
     let mut fields = Fields::new(&bytes);
-    let first = fields.next().ok_or("no record")??;
-    assert!(rt; first.place == 0 && first.number == 536_870_911);
-    assert!(rt; matches!(first.payload, Payload::Varint(0)));
-    let second = fields.next().ok_or("no record")??;
-    assert!(rt; second.place == 6 && second.number == 1);
-    assert!(rt; matches!(second.payload, Payload::Bytes(b"")));
-    let third = fields.next().ok_or("no record")??;
-    assert!(rt; third.place == 8 && third.number == 536_870_911);
-    assert!(rt; matches!(third.payload, Payload::Varint(7)));
-    assert!(rt; fields.next().is_none());
-    Ok(())
-}
-
-// The place at which no record stands, or `None` where one stands or nothing is left.
-fn refused_at(fields: &mut Fields) -> Option<usize> {
-    match fields.next() {
-        Some(Err(place)) => Some(place),
-        _ => None,
-    }
+    let seen = [
+        reads(&mut fields, 0, 536_870_911, Payload::Varint(0)),
+        reads(&mut fields, 6, 1, Payload::Bytes(b"")),
+        reads(&mut fields, 8, 536_870_911, Payload::Varint(7)),
+        ends(&mut fields, 14),
+    ];
+    assert_eq!(rt; first_false(&seen), None);
 }
 
 #[test]
@@ -97,19 +109,15 @@ fn no_record_stands(rt: HostRuntime) {
     ];
     for bytes in messages {
         let mut fields = Fields::new(bytes);
-        assert_eq!(rt; refused_at(&mut fields), Some(0), "of {bytes:?}");
+        assert!(rt; is_refused(&mut fields, 0));
     }
-}
-
-#[test]
-fn stays_where_no_record_stands(rt: HostRuntime) -> Result<(), Fail> {
+    // It stays where no record stands.
     let mut fields = Fields::new(&[0x0A, 0x01, 0x61, 0x10, 0x05, 0x0B, 0x08, 0x01]);
-    let first = fields.next().ok_or("no record")??;
-    assert!(rt; first.place == 0 && first.number == 1);
-    let second = fields.next().ok_or("no record")??;
-    assert!(rt; second.place == 3 && second.number == 2);
-    assert_eq!(rt; refused_at(&mut fields), Some(5));
-    assert_eq!(rt; refused_at(&mut fields), Some(5));
-    assert_eq!(rt; fields.place(), 5);
-    Ok(())
+    let seen = [
+        reads(&mut fields, 0, 1, Payload::Bytes(b"a")),
+        reads(&mut fields, 3, 2, Payload::Varint(5)),
+        is_refused(&mut fields, 5),
+        is_refused(&mut fields, 5),
+    ];
+    assert_eq!(rt; first_false(&seen), None);
 }
