@@ -173,11 +173,18 @@ fn four_from<R: Reader>(
     }
 }
 
-// What the reader says of the file's length, or `None` where there is no reader.
-pub(super) fn length<R: Reader>(reader: &mut Option<R>) -> Option<Result<u64, FolderError>> {
+// Whether a reader is there and tells this length.
+pub(super) fn has_length<R: Reader>(reader: &mut Option<R>, want: u64) -> bool {
     match reader {
-        Some(reader) => Some(reader.len()),
-        None => None,
+        Some(reader) => reader.len() == Ok(want),
+        None => false,
+    }
+}
+
+pub(super) fn fails_to_tell_its_length<R: Reader>(reader: &mut Option<R>) -> bool {
+    match reader {
+        Some(reader) => reader.len() == Err(FolderError::Failed),
+        None => false,
     }
 }
 

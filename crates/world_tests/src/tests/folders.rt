@@ -25,7 +25,7 @@ fn a_reader_keeps_its_bytes_and_tells_its_reads(rt: HostRuntime) {
     let mut reader = opened(alloc, &mut folder, "a");
     let seen = [
         finds_none(alloc, &mut folder, "b"),
-        length(&mut reader) == Some(Ok(6)),
+        has_length(&mut reader, 6),
         puts(&mut folder, "a", b"later"),
         reads(alloc, &mut reader, 2, b"cdef"),
         reads(alloc, &mut reader, 0, b"abcd"),

@@ -1,5 +1,5 @@
 // The folder in memory whose calls never fail.
-use super::calls::{absorbs, first_false, length, reads, second};
+use super::calls::{absorbs, first_false, has_length, reads, second};
 use std::alloc::Global;
 use world::{Folder, SureFolder, SureReader};
 
@@ -81,7 +81,7 @@ fn its_readers_keep_their_bytes(rt: HostRuntime) {
     let seen = [
         put,
         finds_none(alloc, &mut folder, "b"),
-        length(&mut reader) == Some(Ok(6)),
+        has_length(&mut reader, 6),
         puts(&mut folder, "a", b"later"),
         reads(alloc, &mut reader, 2, b"cdef"),
         reads(alloc, &mut other, 0, b"abcd"),
