@@ -1,7 +1,6 @@
 // Which reads a file and its block take.
 use super::answers::{failing_reader, has_numbers, read, reader_of};
 use std::alloc::Global;
-use std::test::Fail;
 use test_bytes::THREE_ROWS_FILE;
 
 // Whether the file is read by five reads, and its block by one more, of its body.
@@ -30,8 +29,7 @@ fn fails_to_read_the_body(alloc: Global) -> bool {
 }
 
 #[test]
-fn three_rows(rt: HostRuntime) -> Result<(), Fail> {
+fn three_rows(rt: HostRuntime) {
     assert!(rt; reads_the_body(rt.alloc()));
     assert!(rt; fails_to_read_the_body(rt.alloc()));
-    Ok(())
 }

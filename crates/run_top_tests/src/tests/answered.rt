@@ -1,10 +1,9 @@
 // What a command answered, without clauses, so that a test's proof has no more to do with it.
-use hex::decode;
+use hex::{FromHexError, decode};
 use run_top::{Status, run_main};
 use std::alloc::Global;
 use std::marker::Sync;
 use std::sync::Wait;
-use std::test::Fail;
 use std::thread::Threads;
 use sub_types::{NoMemory, Word};
 use world::{MemFolder, MemNotes, OpenGate};
@@ -34,29 +33,35 @@ pub(super) fn run_words<H: Threads + Wait + Sync>(
     })
 }
 
-// Sets a file, written in digits.
-pub(super) fn put(
+// Sets a file, written in digits. It isn't there where no memory was found.
+pub(super) fn put(alloc: Global, folder: &mut MemFolder, name: &str, digits: &str) {
+    put_repeated(alloc, folder, name, ("", digits, ""), 1);
+}
+
+// Sets a file: a head, so many times a piece, and a tail, all written in digits.
+pub(super) fn put_repeated(
     alloc: Global,
     folder: &mut MemFolder,
     name: &str,
-    digits: &str,
-) -> Result<(), Fail> {
-    Ok(folder.put_file(name, &decode(alloc, digits)?)?)
+    parts: (&str, &str, &str),
+    count: u32,
+) {
+    if let Ok(bytes) = repeated(alloc, parts, count) {
+        let _ = folder.put_file(name, &bytes);
+    }
 }
 
-// A head, so many times a piece, and a tail, all written in digits.
-pub(super) fn repeated(
-    alloc: Global,
-    head: &str,
-    piece: &str,
-    count: u32,
-    tail: &str,
-) -> Result<Vec<u8>, Fail> {
-    let mut bytes = decode(alloc, head)?;
-    let piece = decode(alloc, piece)?;
+fn repeated(alloc: Global, parts: (&str, &str, &str), count: u32) -> Result<Vec<u8>, FromHexError> {
+    let mut bytes = decode(alloc, parts.0)?;
+    let piece = decode(alloc, parts.1)?;
     for _ in 0..count {
-        bytes.extend_from_slice(&piece)?;
+        bytes
+            .extend_from_slice(&piece)
+            .map_err(|_| FromHexError::OutOfMemory)?;
     }
-    bytes.extend_from_slice(&decode(alloc, tail)?)?;
+    let tail = decode(alloc, parts.2)?;
+    bytes
+        .extend_from_slice(&tail)
+        .map_err(|_| FromHexError::OutOfMemory)?;
     Ok(bytes)
 }
