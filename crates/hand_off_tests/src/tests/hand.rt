@@ -7,7 +7,6 @@ use hand_off::{HandOff, HandPass};
 use scan_claims::{ClaimSeat, Claims};
 use std::alloc::Global;
 use std::sync::Wait;
-use std::test::Fail;
 use sub_types::NoMemory;
 
 // The last pass of these.
@@ -87,48 +86,64 @@ fn take_next<H: Wait>(rt: &H, hand: &HandOff<Item>, pass: &mut HandPass<Item>) -
     item.into_inner().number
 }
 
-#[test]
-fn a_full_queue_hands_back(rt: HostRuntime) -> Result<(), Fail> {
-    let (claims, seats) = Claims::new(rt.alloc(), 2, 1)?;
+fn hands_back<H: Wait>(rt: &H, alloc: Global) -> Result<bool, NoMemory> {
+    let (claims, seats) = Claims::new(alloc, 2, 1)?;
     let mut seat = one_seat(&claims, seats)?;
-    let (hand, mut passes) = HandOff::new(&rt, rt.alloc(), 1, 1)?;
+    let (hand, mut passes) = HandOff::new(rt, alloc, 1, 1)?;
     let mut pass = last_pass(&hand, &mut passes)?;
-    let first = offer_next(&rt, &claims, &mut seat, &hand, &mut pass);
-    let second = offer_next(&rt, &claims, &mut seat, &hand, &mut pass);
-    assert!(rt; first == 100 && second == 1);
-    let taken = take_next(&rt, &hand, &mut pass);
-    let none = take_next(&rt, &hand, &mut pass);
-    assert!(rt; taken == 0 && none == 100);
-    Ok(())
+    let first = offer_next(rt, &claims, &mut seat, &hand, &mut pass);
+    let second = offer_next(rt, &claims, &mut seat, &hand, &mut pass);
+    let taken = take_next(rt, &hand, &mut pass);
+    let none = take_next(rt, &hand, &mut pass);
+    Ok([first, second, taken, none] == [100, 1, 0, 100])
 }
 
 #[test]
-fn what_is_left_comes_from_the_front(rt: HostRuntime) -> Result<(), Fail> {
-    let (claims, seats) = Claims::new(rt.alloc(), 2, 1)?;
+fn a_full_queue_hands_back(rt: HostRuntime) {
+    assert!(rt; hands_back(&rt, rt.alloc()) == Ok(true));
+}
+
+// Offers two numbers, and gives what is left then.
+fn left_of_two<H: Wait>(rt: &H, alloc: Global) -> Result<Vec<u64>, NoMemory> {
+    let (claims, seats) = Claims::new(alloc, 2, 1)?;
     let mut seat = one_seat(&claims, seats)?;
-    let (hand, mut passes) = HandOff::new(&rt, rt.alloc(), 2, 2)?;
+    let (hand, mut passes) = HandOff::new(rt, alloc, 2, 2)?;
     let mut pass = last_pass(&hand, &mut passes)?;
-    let first = offer_next(&rt, &claims, &mut seat, &hand, &mut pass);
-    let second = offer_next(&rt, &claims, &mut seat, &hand, &mut pass);
-    assert!(rt; first == 100 && second == 100);
+    let first = offer_next(rt, &claims, &mut seat, &hand, &mut pass);
+    let second = offer_next(rt, &claims, &mut seat, &hand, &mut pass);
+    if [first, second] != [100, 100] {
+        return Err(NoMemory);
+    }
     give_back(&hand, &mut passes, pass)?;
-    let left = numbers_left(&rt, rt.alloc(), hand.finish(&rt, passes))?;
-    assert_eq!(rt; left.as_slice(), [0, 1].as_slice());
-    Ok(())
+    numbers_left(rt, alloc, hand.finish(rt, passes))
+}
+
+fn are_both(left: Result<Vec<u64>, NoMemory>) -> bool {
+    match left {
+        Ok(left) => left.as_slice() == [0, 1].as_slice(),
+        Err(_) => false,
+    }
 }
 
 #[test]
-fn another_pass_takes_what_one_offered(rt: HostRuntime) -> Result<(), Fail> {
-    let (claims, seats) = Claims::new(rt.alloc(), 2, 1)?;
+fn what_is_left_comes_from_the_front(rt: HostRuntime) {
+    assert!(rt; are_both(left_of_two(&rt, rt.alloc())));
+}
+
+fn takes_from_another<H: Wait>(rt: &H, alloc: Global) -> Result<bool, NoMemory> {
+    let (claims, seats) = Claims::new(alloc, 2, 1)?;
     let mut seat = one_seat(&claims, seats)?;
-    let (hand, mut passes) = HandOff::new(&rt, rt.alloc(), 2, 2)?;
+    let (hand, mut passes) = HandOff::new(rt, alloc, 2, 2)?;
     let mut pass = last_pass(&hand, &mut passes)?;
     let mut other = last_pass(&hand, &mut passes)?;
-    let first = offer_next(&rt, &claims, &mut seat, &hand, &mut pass);
-    let second = offer_next(&rt, &claims, &mut seat, &hand, &mut pass);
-    assert!(rt; first == 100 && second == 100);
-    let taken = take_next(&rt, &hand, &mut other);
-    let then = take_next(&rt, &hand, &mut other);
-    assert!(rt; taken == 0 && then == 1);
-    Ok(())
+    let first = offer_next(rt, &claims, &mut seat, &hand, &mut pass);
+    let second = offer_next(rt, &claims, &mut seat, &hand, &mut pass);
+    let taken = take_next(rt, &hand, &mut other);
+    let then = take_next(rt, &hand, &mut other);
+    Ok([first, second, taken, then] == [100, 100, 0, 1])
+}
+
+#[test]
+fn another_pass_takes_what_one_offered(rt: HostRuntime) {
+    assert!(rt; takes_from_another(&rt, rt.alloc()) == Ok(true));
 }

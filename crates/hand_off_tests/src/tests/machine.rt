@@ -2,8 +2,6 @@
 
 use run_core::{Event, Run};
 use std::alloc::Global;
-use std::test::Fail;
-use sub_types::NoMemory;
 
 const CLAIM: Event = Event::Claim { worker: 0 };
 
@@ -13,41 +11,53 @@ const TAKE: Event = Event::Take { worker: 0 };
 
 const FINISH: Event = Event::Finish { worker: 0 };
 
-// Tries each event in its turn, and tells which were allowed.
-fn play(alloc: Global, run: &mut Run, events: &[Event]) -> Result<Vec<bool>, NoMemory> {
-    let mut answers = Vec::new(alloc);
-    for event in events {
-        run.reserve()?;
-        answers.push(run.step(*event))?;
+// Tries each event in its turn; whether those are allowed that are to be.
+fn plays(run: &mut Run, events: &[(Event, bool)]) -> bool {
+    for (event, allowed) in events {
+        if run.reserve().is_err() || run.step(*event) != *allowed {
+            return false;
+        }
     }
-    Ok(answers)
+    true
+}
+
+// Whether each receipt has these claims, offers, takings and ends.
+fn has_done(run: &Run, claimed: &[u64], offered: &[u64], taken: &[u64], finished: &[u64]) -> bool {
+    for receipt in run.receipts() {
+        let same = receipt.claimed.as_slice() == claimed
+            && receipt.offered.as_slice() == offered
+            && receipt.taken.as_slice() == taken
+            && receipt.finished.as_slice() == finished;
+        if !same {
+            return false;
+        }
+    }
+    true
+}
+
+fn goes_through(alloc: Global) -> bool {
+    let events = [(CLAIM, true), (PUT, true), (TAKE, true), (FINISH, true)];
+    match Run::new(alloc, 1, 1, 1) {
+        Ok(mut run) => plays(&mut run, &events) && has_done(&run, &[0], &[0], &[0], &[0]),
+        Err(_) => false,
+    }
+}
+
+fn is_refused(alloc: Global) -> bool {
+    match Run::new(alloc, 1, 1, 1) {
+        Ok(mut run) => plays(&mut run, &[(CLAIM, true), (FINISH, false)])
+            && has_done(&run, &[0], &[], &[], &[])
+            && plays(&mut run, &[(CLAIM, false), (TAKE, false), (PUT, true)]),
+        Err(_) => false,
+    }
 }
 
 #[test]
-fn one_number_through_the_machine(rt: HostRuntime) -> Result<(), Fail> {
-    let mut run = Run::new(rt.alloc(), 1, 1, 1)?;
-    let answers = play(rt.alloc(), &mut run, &[CLAIM, PUT, TAKE, FINISH])?;
-    assert_eq!(rt; answers.as_slice(), [true, true, true, true].as_slice());
-    for receipt in run.receipts() {
-        assert_eq!(rt; receipt.claimed.as_slice(), [0].as_slice());
-        assert_eq!(rt; receipt.offered.as_slice(), [0].as_slice());
-        assert_eq!(rt; receipt.taken.as_slice(), [0].as_slice());
-        assert_eq!(rt; receipt.finished.as_slice(), [0].as_slice());
-    }
-    Ok(())
+fn one_number_through_the_machine(rt: HostRuntime) {
+    assert!(rt; goes_through(rt.alloc()));
 }
 
 #[test]
-fn a_fresh_number_is_not_finished(rt: HostRuntime) -> Result<(), Fail> {
-    let mut run = Run::new(rt.alloc(), 1, 1, 1)?;
-    let answers = play(rt.alloc(), &mut run, &[CLAIM, FINISH])?;
-    assert_eq!(rt; answers.as_slice(), [true, false].as_slice());
-    for receipt in run.receipts() {
-        assert_eq!(rt; receipt.claimed.as_slice(), [0].as_slice());
-        assert!(rt; receipt.offered.is_empty() && receipt.taken.is_empty());
-        assert!(rt; receipt.finished.is_empty());
-    }
-    let rest = play(rt.alloc(), &mut run, &[CLAIM, TAKE, PUT])?;
-    assert_eq!(rt; rest.as_slice(), [false, false, true].as_slice());
-    Ok(())
+fn a_fresh_number_is_not_finished(rt: HostRuntime) {
+    assert!(rt; is_refused(rt.alloc()));
 }

@@ -1,7 +1,7 @@
 // The payload rules, on messages that were worked out by hand.
 ghost use Rattle.std.specs.Prelude.{◌≡◌, IfSome};
 
-use plan_scan::{Merged, Message, OneOf, Shape};
+use plan_scan::{Choice, Merged, Message, OneOf, Shape};
 use std::alloc::Global;
 use sub_types::{ByteList, NoMemory, Word};
 use test_bytes::THREE_ROWS_PLAN;
@@ -213,33 +213,53 @@ fn last_member_wins(rt: HostRuntime) {
 // The number of the winner among the members of the first relation, and how many names its read has: 0 where it isn't one.
 fn relation_of(alloc: Global, bytes: &[u8]) -> Option<(u32, usize)> {
     let root = first_root(alloc, bytes)?;
-    let relation = root.message().merged(alloc, 1, Shape::Rel).ok()??;
+    match root.message().merged(alloc, 1, Shape::Rel) {
+        Ok(Some(relation)) => relation_and_names(alloc, &relation),
+        _ => None,
+    }
+}
+
+fn relation_and_names(alloc: Global, relation: &Merged<'_>) -> Option<(u32, usize)>
+    requires { relation.now.shape ≡ Shape.Rel }
+{
     let (number, won) = relation.message().oneof(OneOf::RelType)?;
-    let names = match won.merged(alloc, 1, Shape::ReadRel) {
-        Ok(Some(read)) => names_of(alloc, &read)?,
-        _ => 0,
-    };
-    Some((number, names))
+    match won.merged(alloc, 1, Shape::ReadRel) {
+        Ok(Some(read)) => Some((number, names_of(alloc, &read)?)),
+        _ => Some((number, 0)),
+    }
 }
 
 // How many names the schema of a read has.
 fn names_of(alloc: Global, read: &Merged<'_>) -> Option<usize>
     requires { read.now.shape ≡ Shape.ReadRel }
 {
-    match read.message().merged(alloc, 2, Shape::NamedStruct).ok()? {
-        Some(schema) => Some(schema.message().texts(alloc, 1).ok()?.len()),
-        None => Some(0),
+    match read.message().merged(alloc, 2, Shape::NamedStruct) {
+        Ok(Some(schema)) => count_of(schema.message().texts(alloc, 1)),
+        _ => Some(0),
+    }
+}
+
+fn count_of(texts: Result<Vec<ByteList>, NoMemory>) -> Option<usize> {
+    match texts {
+        Ok(texts) => Some(texts.len()),
+        Err(_) => None,
     }
 }
 
 // The same, read as a choice, and how many records of a schema the winner has.
 fn choice_of(alloc: Global, bytes: &[u8]) -> Option<(u32, usize)> {
     let root = first_root(alloc, bytes)?;
-    let choice = root.message().choice_at(alloc, 1, OneOf::RelType).ok()??;
-    let (number, won) = choice.winner()?;
-    match won {
-        None => Some((number, 0)),
-        Some(message) => Some((number, message.texts(alloc, 2).ok()?.len())),
+    match root.message().choice_at(alloc, 1, OneOf::RelType) {
+        Ok(Some(choice)) => winner_and_records(alloc, &choice),
+        _ => None,
+    }
+}
+
+fn winner_and_records(alloc: Global, choice: &Choice<'_>) -> Option<(u32, usize)> {
+    match choice.winner() {
+        Some((number, Some(message))) => Some((number, count_of(message.texts(alloc, 2))?)),
+        Some((number, None)) => Some((number, 0)),
+        None => None,
     }
 }
 
@@ -300,12 +320,34 @@ fn first_relation<'a>(alloc: Global, bytes: &'a [u8]) -> Option<Merged<'a>>
 // The number of the winner among the members of the literal in the condition of a filter, or 0 where it has none.
 fn literal_of(alloc: Global, bytes: &[u8]) -> Option<u32> {
     let relation = first_relation(alloc, bytes)?;
-    let filter = relation.message().merged(alloc, 2, Shape::FilterRel).ok()??;
-    let condition = filter.message().merged(alloc, 3, Shape::Expression).ok()??;
-    let literal = condition.message().merged(alloc, 1, Shape::Literal).ok()??;
+    match relation.message().merged(alloc, 2, Shape::FilterRel) {
+        Ok(Some(filter)) => literal_in_filter(alloc, &filter),
+        _ => None,
+    }
+}
+
+fn literal_in_filter(alloc: Global, filter: &Merged<'_>) -> Option<u32>
+    requires { filter.now.shape ≡ Shape.FilterRel }
+{
+    match filter.message().merged(alloc, 3, Shape::Expression) {
+        Ok(Some(condition)) => literal_in_condition(alloc, &condition),
+        _ => None,
+    }
+}
+
+fn literal_in_condition(alloc: Global, condition: &Merged<'_>) -> Option<u32>
+    requires { condition.now.shape ≡ Shape.Expression }
+{
+    match condition.message().merged(alloc, 1, Shape::Literal) {
+        Ok(Some(literal)) => Some(winner_of(&literal)),
+        _ => None,
+    }
+}
+
+fn winner_of(literal: &Merged<'_>) -> u32 {
     match literal.message().oneof(OneOf::LiteralType) {
-        Some((number, _)) => Some(number),
-        None => Some(0),
+        Some((number, _)) => number,
+        None => 0,
     }
 }
 
