@@ -2,13 +2,15 @@
 #![tactic(auto)]
 
 mod crew;
+#[cfg(test)]
 mod fork;
 mod numbers;
+#[cfg(test)]
 mod parts;
+#[cfg(test)]
 mod run;
 #[cfg(test)]
 mod tests;
 
 pub use crew::Worker;
 pub use numbers::{Item, Numbers};
-pub use run::{Finished, run_numbers};
