@@ -15,19 +15,29 @@ fn binary(nullable: bool) -> Ty
     }
 }
 
+// Adds so many zeros, or a null.
+fn push_size(
+    alloc: Global,
+    builder: &mut ColumnBuilder,
+    size: Option<usize>,
+) -> Result<(), NoMemory>
+    requires { builder.old.ty.kind ≡ Kind.Binary }
+    ensures { builder.new.ty ≡ builder.old.ty }
+{
+    let Some(size) = size else {
+        return builder.push(&Value::Null);
+    };
+    let bytes = vec![in alloc; 0; size]?;
+    builder.push(&Value::Bytes(ByteList::from_vec(bytes)))
+}
+
 // A column of binaries of these sizes, null where there is none.
 fn binaries(alloc: Global, sizes: &[Option<usize>]) -> Result<Column, NoMemory>
     ensures { IfOk result (λ column. column.ty.kind ≡ Kind.Binary) }
 {
     let mut builder = ColumnBuilder::new(alloc, binary(true));
     for size in sizes {
-        match size {
-            Some(size) => {
-                let bytes = vec![in alloc; 0; *size]?;
-                builder.push(&Value::Bytes(ByteList::from_vec(bytes)))?;
-            }
-            None => builder.push(&Value::Null)?,
-        }
+        push_size(alloc, &mut builder, *size)?;
     }
     Ok(builder.finish())
 }
