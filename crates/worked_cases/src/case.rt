@@ -267,23 +267,28 @@ impl Draft {
 
     // The case, whose last line was read.
     fn case(self) -> Result<Case, LineFault> {
-        let case = self.case;
+        match self.fault() {
+            Some(fault) => Err(fault),
+            None => Ok(self.case),
+        }
+    }
+
+    // What the case lacks, if it lacks something.
+    fn fault(&self) -> Option<LineFault> {
+        let case = &self.case;
         if !self.has_words {
-            return Err(LineFault::NoWords);
+            Some(LineFault::NoWords)
+        } else if case.text.is_empty() {
+            Some(LineFault::NoLine)
+        } else if !self.has_status {
+            Some(LineFault::NoStatus)
+        } else if !case.workers.is_empty() && case.workers_place().is_none() {
+            Some(LineFault::NoWorkers)
+        } else if !case.has_prefix() {
+            Some(LineFault::NoPrefix)
+        } else {
+            None
         }
-        if case.text.is_empty() {
-            return Err(LineFault::NoLine);
-        }
-        if !self.has_status {
-            return Err(LineFault::NoStatus);
-        }
-        if !case.workers.is_empty() && case.workers_place().is_none() {
-            return Err(LineFault::NoWorkers);
-        }
-        if !case.has_prefix() {
-            return Err(LineFault::NoPrefix);
-        }
-        Ok(case)
     }
 }
 
@@ -347,30 +352,48 @@ fn add_file(alloc: Global, files: &mut Vec<NamedFile>, rest: &str) -> Result<(),
 // A failure by its words.
 fn failure_of(alloc: Global, rest: &str) -> Result<Failure, LineFault> {
     let texts = rest.split(' ').collect::<Vec<&str>>(alloc)?;
-    Ok(match texts.as_slice() {
-        ["open", name] => Failure::Open {
+    match texts.as_slice() {
+        ["open", name] => Ok(Failure::Open {
             name: String::from_str(alloc, name)?,
-        },
-        ["len", name] => Failure::Len {
+        }),
+        ["len", name] => Ok(Failure::Len {
             name: String::from_str(alloc, name)?,
-        },
-        ["read", name, index] => Failure::Read {
-            name: String::from_str(alloc, name)?,
-            index: index.parse()?,
-        },
-        ["at", name, place] => Failure::At {
-            name: String::from_str(alloc, name)?,
-            place: place.parse()?,
-        },
-        ["again", name, index] => Failure::Again {
-            name: String::from_str(alloc, name)?,
-            index: index.parse()?,
-        },
-        ["create"] => Failure::Create,
-        ["append", index, kept] => Failure::Append {
-            index: index.parse()?,
-            kept: kept.parse()?,
-        },
-        _ => return Err(LineFault::UnknownFailure),
+        }),
+        ["create"] => Ok(Failure::Create),
+        ["append", index, kept] => append_failure(index, kept),
+        [call, name, number] => numbered_failure(alloc, call, name, number),
+        _ => Err(LineFault::UnknownFailure),
+    }
+}
+
+fn append_failure(index: &str, kept: &str) -> Result<Failure, LineFault> {
+    Ok(Failure::Append {
+        index: index.parse()?,
+        kept: kept.parse()?,
     })
+}
+
+// A failure of a call of a file, with the number that tells which.
+fn numbered_failure(
+    alloc: Global,
+    call: &str,
+    name: &str,
+    number: &str,
+) -> Result<Failure, LineFault> {
+    let name = String::from_str(alloc, name)?;
+    match call {
+        "read" => Ok(Failure::Read {
+            index: number.parse()?,
+            name,
+        }),
+        "at" => Ok(Failure::At {
+            place: number.parse()?,
+            name,
+        }),
+        "again" => Ok(Failure::Again {
+            index: number.parse()?,
+            name,
+        }),
+        _ => Err(LineFault::UnknownFailure),
+    }
 }

@@ -124,20 +124,53 @@ fn differing_in<'a, H: Threads + Wait + Sync>(
     variant: Variant<'a>,
 ) -> Result<Option<Differing<'a>>, NoMemory> {
     let words = words_of(alloc, case, variant)?;
-    let mut folder = start_folder(alloc, case, variant)?;
-    plan_failures(&mut folder.inner, &case.failures)?;
-    let outcome = run_words(rt, alloc, &words, folder)?;
-    let expected = expected_of(alloc, case, variant)?;
-    let differences = differences_of(alloc, &outcome, &expected)?;
+    let outcome = first_outcome(rt, alloc, case, variant, &words)?;
+    let differences = first_differences(alloc, case, variant, &outcome)?;
     if !differences.is_empty() || case.failures.is_empty() {
         return Ok(where_any(variant, false, differences));
     }
-    let mut folder = outcome.folder;
-    folder.inner.clear();
-    let outcome = run_words(rt, alloc, &words, folder)?;
-    let expected = run_words(rt, alloc, &words, start_folder(alloc, case, variant)?)?;
-    let differences = differences_of(alloc, &outcome, &expected)?;
+    let differences = second_differences(rt, alloc, case, variant, &words, outcome.folder)?;
     Ok(where_any(variant, true, differences))
+}
+
+// What comes of a run with the case's failures.
+fn first_outcome<H: Threads + Wait + Sync>(
+    rt: &H,
+    alloc: Global,
+    case: &Case,
+    variant: Variant<'_>,
+    words: &[Word],
+) -> Result<Outcome, NoMemory> {
+    let mut folder = start_folder(alloc, case, variant)?;
+    plan_failures(&mut folder.inner, &case.failures)?;
+    run_words(rt, alloc, words, folder)
+}
+
+// Where it isn't what the case expects.
+fn first_differences(
+    alloc: Global,
+    case: &Case,
+    variant: Variant<'_>,
+    outcome: &Outcome,
+) -> Result<Vec<Difference>, NoMemory> {
+    let expected = expected_of(alloc, case, variant)?;
+    differences_of(alloc, outcome, &expected)
+}
+
+// Where a run without failures over the folder that is left isn't as one over the case's files.
+fn second_differences<H: Threads + Wait + Sync>(
+    rt: &H,
+    alloc: Global,
+    case: &Case,
+    variant: Variant<'_>,
+    words: &[Word],
+    folder: CountingFolder,
+) -> Result<Vec<Difference>, NoMemory> {
+    let mut folder = folder;
+    folder.inner.clear();
+    let outcome = run_words(rt, alloc, words, folder)?;
+    let expected = run_words(rt, alloc, words, start_folder(alloc, case, variant)?)?;
+    differences_of(alloc, &outcome, &expected)
 }
 
 // A run that differs, where there are differences.
@@ -252,10 +285,7 @@ fn differences_of(
 ) -> Result<Vec<Difference>, NoMemory> {
     let mut differences = Vec::new(alloc);
     if outcome.text.as_slice() != expected.text.as_slice() {
-        differences.push(Difference::Text {
-            came: outcome.text.clone()?,
-            expected: expected.text.clone()?,
-        })?;
+        differences.push(text_difference(outcome, expected)?)?;
     }
     if outcome.number != expected.number {
         differences.push(Difference::Number {
@@ -271,6 +301,14 @@ fn differences_of(
         })?;
     }
     Ok(differences)
+}
+
+fn text_difference(outcome: &Outcome, expected: &Outcome) -> Result<Difference, NoMemory> {
+    let came = outcome.text.clone()?;
+    Ok(Difference::Text {
+        came,
+        expected: expected.text.clone()?,
+    })
 }
 
 // The files that aren't as expected, each name once.
