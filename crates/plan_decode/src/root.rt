@@ -9,7 +9,7 @@ use crate::knot::relation;
 use plan_leaves::{Boxed, Items, zip};
 use plan_parts::{functions_at, uris_at};
 use plan_raw::{PlanTree, RawRel, RootDecl};
-use plan_scan::{Message, OneOf, Shape};
+use plan_scan::{Message, OneOf, Shape, field};
 use std::alloc::Global;
 use sub_types::NoMemory;
 
@@ -19,8 +19,8 @@ pub(crate) fn plan(alloc: Global, message: &Message<'_>) -> Result<PlanTree, NoM
     ensures { IfOk result (λ plan. plan ≡ rels.plan_by (reader message.now.below) (fields_of message.now.bytes)) }
 {
     Ok(PlanTree {
-        uris: uris_at(alloc, message, 1)?,
-        functions: functions_at(alloc, message, 2)?,
+        uris: uris_at(alloc, message, field::plan::EXTENSION_URIS)?,
+        functions: functions_at(alloc, message, field::plan::EXTENSIONS)?,
         roots: roots(alloc, message)?,
     })
 }
@@ -30,7 +30,7 @@ fn roots(alloc: Global, message: &Message<'_>) -> Result<Items<RootDecl>, NoMemo
     ensures { IfOk result (λ roots. roots ≡ children (reader message.now.below) Shape.PlanRel 3 (fields_of message.now.bytes)) }
 {
     let mut roots = Vec::new(alloc);
-    let mut left = message.children(3, Shape::PlanRel);
+    let mut left = message.children(field::plan::RELATIONS, Shape::PlanRel);
     while let Some(found) = left.next() {
         roots.push(plan_rel(alloc, &found)?)?;
     }
@@ -51,7 +51,7 @@ fn member(alloc: Global, number: u32, won: &Message<'_>) -> Result<RootDecl, NoM
     requires { won.now.shape ≡ Shape.PlanRel }
     ensures { IfOk result (λ root. root ≡ rels.plan_rel_member (reader won.now.below) number (fields_of won.now.bytes)) }
 {
-    if number == 2 {
+    if number == field::plan_rel::ROOT {
         return match rel_root_at(alloc, won)? {
             None => Ok(no_root(alloc)),
             Some(root) => Ok(root),
@@ -64,7 +64,7 @@ fn rel_root_at(alloc: Global, won: &Message<'_>) -> Result<Option<RootDecl>, NoM
     requires { won.now.shape ≡ Shape.PlanRel }
     ensures { IfOk result (λ root. root ≡ child (reader won.now.below) Shape.RelRoot 2 (fields_of won.now.bytes)) }
 {
-    match won.merged(alloc, 2, Shape::RelRoot)? {
+    match won.merged(alloc, field::plan_rel::ROOT, Shape::RelRoot)? {
         None => Ok(None),
         Some(found) => Ok(Some(rel_root(alloc, &found.message())?)),
     }
@@ -85,7 +85,10 @@ fn rel_root(alloc: Global, message: &Message<'_>) -> Result<RootDecl, NoMemory>
     requires { message.now.shape ≡ Shape.RelRoot }
     ensures { IfOk result (λ root. root ≡ rels.root_by (reader message.now.below) (fields_of message.now.bytes)) }
 {
-    let (input, names) = zip(input_at(alloc, message), message.texts(alloc, 2))?;
+    let (input, names) = zip(
+        input_at(alloc, message),
+        message.texts(alloc, field::rel_root::NAMES),
+    )?;
     Ok(RootDecl {
         is_root: true,
         input,
@@ -98,7 +101,7 @@ fn input_at(alloc: Global, message: &Message<'_>) -> Result<Option<Boxed<RawRel>
     requires { message.now.shape ≡ Shape.RelRoot }
     ensures { IfOk result (λ input. input ≡ child (reader message.now.below) Shape.Rel 1 (fields_of message.now.bytes)) }
 {
-    match message.choice_at(alloc, 1, OneOf::RelType)? {
+    match message.choice_at(alloc, field::rel_root::INPUT, OneOf::RelType)? {
         None => Ok(None),
         Some(found) => Ok(Some(Boxed::new(alloc, relation(alloc, &found)?)?)),
     }

@@ -1,9 +1,10 @@
 // Expressions (Substrait `Expression`).
-ghost use Rattle.std.specs.Prelude.{◌≡◌, ◌≤◌, IfOk};
+ghost use Rattle.std.specs.Prelude.{◌≡◌, IfOk};
 ghost use Rattle.pb_wire.specs.Payloads.{fields_of};
 ghost use Rattle.plan_scan.specs.Table.{HoldsMessage};
 ghost use Rattle.plan_parts.specs.Shapes.{children};
 ghost use Rattle.plan_parts.specs.Exprs as exprs;
+ghost use Rattle.plan_parts.specs.CanRead.{CanRead};
 ghost use Rattle.plan_parts.specs.Reader.{reader};
 ghost use Rattle.plan_exprs.specs.Member.{expr_in};
 
@@ -14,7 +15,7 @@ use plan_parts::{
     selection, type_at,
 };
 use plan_raw::{IfClause, IfValue, RawExpr};
-use plan_scan::{Choice, Message, OneOf, Shape};
+use plan_scan::{Choice, Message, OneOf, Shape, field};
 use std::alloc::Global;
 use sub_types::NoMemory;
 
@@ -25,8 +26,7 @@ pub fn expression_by<D: Deeper>(
     choice: &Choice<'_>,
 ) -> Result<RawExpr, NoMemory>
     requires oneof { choice.now.oneof ≡ OneOf.RexType }
-    requires ready { D.is_ready deeper.now }
-    requires deeper { choice.now.below ≤ D.levels deeper.now }
+    requires deeper { CanRead D.Deeper deeper.now choice.now.below }
     ensures { IfOk result (λ expr. expr ≡ exprs.expression_by (reader choice.now.below) (fields_of choice.now.bytes)) }
 {
     match choice.winner() {
@@ -44,19 +44,18 @@ fn member<D: Deeper>(
     message: &Message<'_>,
 ) -> Result<RawExpr, NoMemory>
     requires shape { HoldsMessage Shape.Expression number message.now.shape }
-    requires ready { D.is_ready deeper.now }
-    requires deeper { message.now.below ≤ D.levels deeper.now }
+    requires deeper { CanRead D.Deeper deeper.now message.now.below }
     ensures { IfOk result (λ expr. expr ≡ expr_in (reader message.now.below) number (fields_of message.now.bytes)) }
 {
     match number {
-        1 => Ok(RawExpr::Literal(literal_of(alloc, message)?)),
-        2 => selection(alloc, message),
-        3 => scalar_function(alloc, deeper, message),
-        6 => if_then(alloc, deeper, message),
-        7 => switch(alloc, deeper, message),
-        8 => singular_or_list(alloc, deeper, message),
-        11 => cast(alloc, deeper, message),
-        12 => subquery(alloc, deeper, message),
+        field::expression::LITERAL => Ok(RawExpr::Literal(literal_of(alloc, message)?)),
+        field::expression::SELECTION => selection(alloc, message),
+        field::expression::SCALAR_FUNCTION => scalar_function(alloc, deeper, message),
+        field::expression::IF_THEN => if_then(alloc, deeper, message),
+        field::expression::SWITCH_EXPRESSION => switch(alloc, deeper, message),
+        field::expression::SINGULAR_OR_LIST => singular_or_list(alloc, deeper, message),
+        field::expression::CAST => cast(alloc, deeper, message),
+        field::expression::SUBQUERY => subquery(alloc, deeper, message),
         _ => Ok(RawExpr::Unknown { number }),
     }
 }
@@ -67,19 +66,18 @@ fn scalar_function<D: Deeper>(
     message: &Message<'_>,
 ) -> Result<RawExpr, NoMemory>
     requires shape { message.now.shape ≡ Shape.ScalarFunction }
-    requires ready { D.is_ready deeper.now }
-    requires deeper { message.now.below ≤ D.levels deeper.now }
+    requires deeper { CanRead D.Deeper deeper.now message.now.below }
     ensures { IfOk result (λ expr. expr ≡ exprs.scalar_function_by (reader message.now.below) (fields_of message.now.bytes)) }
 {
     let (output_type, (arguments, options)) = zip(
-        type_at(alloc, message, 3),
+        type_at(alloc, message, field::scalar_function::OUTPUT_TYPE),
         zip(
-            arguments_at(alloc, deeper, message, 4),
-            options_at(alloc, message, 5),
+            arguments_at(alloc, deeper, message, field::scalar_function::ARGUMENTS),
+            options_at(alloc, message, field::scalar_function::OPTIONS),
         ),
     )?;
     Ok(RawExpr::ScalarFunction {
-        function_reference: message.uint32(1),
+        function_reference: message.uint32(field::scalar_function::FUNCTION_REFERENCE),
         output_type,
         arguments,
         options,
@@ -88,13 +86,12 @@ fn scalar_function<D: Deeper>(
 
 fn if_then<D: Deeper>(alloc: Global, deeper: &D, message: &Message<'_>) -> Result<RawExpr, NoMemory>
     requires shape { message.now.shape ≡ Shape.IfThen }
-    requires ready { D.is_ready deeper.now }
-    requires deeper { message.now.below ≤ D.levels deeper.now }
+    requires deeper { CanRead D.Deeper deeper.now message.now.below }
     ensures { IfOk result (λ expr. expr ≡ exprs.if_then_by (reader message.now.below) (fields_of message.now.bytes)) }
 {
     let (ifs, else_) = zip(
-        if_clauses_at(alloc, deeper, message, 1),
-        boxed_expr_at(alloc, deeper, message, 2),
+        if_clauses_at(alloc, deeper, message, field::if_then::IFS),
+        boxed_expr_at(alloc, deeper, message, field::if_then::ELSE),
     )?;
     Ok(RawExpr::IfThen { ifs, else_ })
 }
@@ -106,8 +103,7 @@ fn if_clauses_at<D: Deeper>(
     number: u32,
 ) -> Result<Items<IfClause>, NoMemory>
     requires shape { HoldsMessage message.now.shape number Shape.IfClause }
-    requires ready { D.is_ready deeper.now }
-    requires deeper { message.now.below ≤ D.levels deeper.now }
+    requires deeper { CanRead D.Deeper deeper.now message.now.below }
     ensures { IfOk result (λ clauses. clauses ≡ children (reader message.now.below) Shape.IfClause number (fields_of message.now.bytes)) }
 {
     let mut clauses = Vec::new(alloc);
@@ -124,28 +120,26 @@ fn if_clause<D: Deeper>(
     message: &Message<'_>,
 ) -> Result<IfClause, NoMemory>
     requires shape { message.now.shape ≡ Shape.IfClause }
-    requires ready { D.is_ready deeper.now }
-    requires deeper { message.now.below ≤ D.levels deeper.now }
+    requires deeper { CanRead D.Deeper deeper.now message.now.below }
     ensures { IfOk result (λ clause. clause ≡ exprs.if_clause_by (reader message.now.below) (fields_of message.now.bytes)) }
 {
     let (if_, then) = zip(
-        expr_at(alloc, deeper, message, 1),
-        expr_at(alloc, deeper, message, 2),
+        expr_at(alloc, deeper, message, field::if_clause::IF),
+        expr_at(alloc, deeper, message, field::if_clause::THEN),
     )?;
     Ok(IfClause { if_, then })
 }
 
 fn switch<D: Deeper>(alloc: Global, deeper: &D, message: &Message<'_>) -> Result<RawExpr, NoMemory>
     requires shape { message.now.shape ≡ Shape.SwitchExpression }
-    requires ready { D.is_ready deeper.now }
-    requires deeper { message.now.below ≤ D.levels deeper.now }
+    requires deeper { CanRead D.Deeper deeper.now message.now.below }
     ensures { IfOk result (λ expr. expr ≡ exprs.switch_by (reader message.now.below) (fields_of message.now.bytes)) }
 {
     let (ifs, (else_, match_)) = zip(
-        if_values_at(alloc, deeper, message, 1),
+        if_values_at(alloc, deeper, message, field::switch_expression::IFS),
         zip(
-            boxed_expr_at(alloc, deeper, message, 2),
-            boxed_expr_at(alloc, deeper, message, 3),
+            boxed_expr_at(alloc, deeper, message, field::switch_expression::ELSE),
+            boxed_expr_at(alloc, deeper, message, field::switch_expression::MATCH),
         ),
     )?;
     Ok(RawExpr::SwitchExpression { ifs, else_, match_ })
@@ -158,8 +152,7 @@ fn if_values_at<D: Deeper>(
     number: u32,
 ) -> Result<Items<IfValue>, NoMemory>
     requires shape { HoldsMessage message.now.shape number Shape.IfValue }
-    requires ready { D.is_ready deeper.now }
-    requires deeper { message.now.below ≤ D.levels deeper.now }
+    requires deeper { CanRead D.Deeper deeper.now message.now.below }
     ensures { IfOk result (λ values. values ≡ children (reader message.now.below) Shape.IfValue number (fields_of message.now.bytes)) }
 {
     let mut values = Vec::new(alloc);
@@ -176,13 +169,12 @@ fn if_value<D: Deeper>(
     message: &Message<'_>,
 ) -> Result<IfValue, NoMemory>
     requires shape { message.now.shape ≡ Shape.IfValue }
-    requires ready { D.is_ready deeper.now }
-    requires deeper { message.now.below ≤ D.levels deeper.now }
+    requires deeper { CanRead D.Deeper deeper.now message.now.below }
     ensures { IfOk result (λ value. value ≡ exprs.if_value_by (reader message.now.below) (fields_of message.now.bytes)) }
 {
     let (if_, then) = zip(
-        literal_at(alloc, message, 1),
-        expr_at(alloc, deeper, message, 2),
+        literal_at(alloc, message, field::if_value::IF),
+        expr_at(alloc, deeper, message, field::if_value::THEN),
     )?;
     Ok(IfValue { if_, then })
 }
@@ -193,30 +185,28 @@ fn singular_or_list<D: Deeper>(
     message: &Message<'_>,
 ) -> Result<RawExpr, NoMemory>
     requires shape { message.now.shape ≡ Shape.SingularOrList }
-    requires ready { D.is_ready deeper.now }
-    requires deeper { message.now.below ≤ D.levels deeper.now }
+    requires deeper { CanRead D.Deeper deeper.now message.now.below }
     ensures { IfOk result (λ expr. expr ≡ exprs.singular_or_list_by (reader message.now.below) (fields_of message.now.bytes)) }
 {
     let (value, options) = zip(
-        boxed_expr_at(alloc, deeper, message, 1),
-        exprs_at(alloc, deeper, message, 2),
+        boxed_expr_at(alloc, deeper, message, field::singular_or_list::VALUE),
+        exprs_at(alloc, deeper, message, field::singular_or_list::OPTIONS),
     )?;
     Ok(RawExpr::SingularOrList { value, options })
 }
 
 fn cast<D: Deeper>(alloc: Global, deeper: &D, message: &Message<'_>) -> Result<RawExpr, NoMemory>
     requires shape { message.now.shape ≡ Shape.Cast }
-    requires ready { D.is_ready deeper.now }
-    requires deeper { message.now.below ≤ D.levels deeper.now }
+    requires deeper { CanRead D.Deeper deeper.now message.now.below }
     ensures { IfOk result (λ expr. expr ≡ exprs.cast_by (reader message.now.below) (fields_of message.now.bytes)) }
 {
     let (type_, input) = zip(
-        type_at(alloc, message, 1),
-        boxed_expr_at(alloc, deeper, message, 2),
+        type_at(alloc, message, field::cast::TYPE),
+        boxed_expr_at(alloc, deeper, message, field::cast::INPUT),
     )?;
     Ok(RawExpr::Cast {
         type_,
         input,
-        failure_behavior: message.uint32(3),
+        failure_behavior: message.uint32(field::cast::FAILURE_BEHAVIOR),
     })
 }

@@ -5,3 +5,4 @@ pub mod Types
 pub mod Rels
 pub mod Exprs
 pub mod Reader
+pub mod CanRead

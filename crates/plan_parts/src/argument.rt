@@ -1,9 +1,10 @@
 // The arguments of function calls (Substrait `FunctionArgument`).
-ghost use Rattle.std.specs.Prelude.{◌≡◌, ◌≤◌, IfOk};
+ghost use Rattle.std.specs.Prelude.{◌≡◌, IfOk};
 ghost use Rattle.pb_wire.specs.Payloads.{fields_of};
 ghost use Rattle.plan_scan.specs.Table.{HoldsMessage};
 ghost use Rattle.plan_parts.specs.Shapes.{child, children};
 ghost use Rattle.plan_parts.specs.Exprs.{argument_by, argument_member};
+ghost use Rattle.plan_parts.specs.CanRead.{CanRead};
 ghost use Rattle.plan_parts.specs.Reader.{reader};
 
 use crate::at::expr_at;
@@ -11,7 +12,7 @@ use crate::deeper::Deeper;
 use crate::types::type_at;
 use plan_leaves::Items;
 use plan_raw::FunctionArgument;
-use plan_scan::{Message, OneOf, Shape};
+use plan_scan::{Message, OneOf, Shape, field};
 use std::alloc::Global;
 use sub_types::NoMemory;
 
@@ -23,8 +24,7 @@ pub fn arguments_at<D: Deeper>(
     number: u32,
 ) -> Result<Items<FunctionArgument>, NoMemory>
     requires shape { HoldsMessage message.now.shape number Shape.FunctionArgument }
-    requires ready { D.is_ready deeper.now }
-    requires deeper { message.now.below ≤ D.levels deeper.now }
+    requires deeper { CanRead D.Deeper deeper.now message.now.below }
     ensures { IfOk result (λ arguments. arguments ≡ children (reader message.now.below) Shape.FunctionArgument number (fields_of message.now.bytes)) }
 {
     let mut arguments = Vec::new(alloc);
@@ -41,8 +41,7 @@ fn argument<D: Deeper>(
     message: &Message<'_>,
 ) -> Result<FunctionArgument, NoMemory>
     requires shape { message.now.shape ≡ Shape.FunctionArgument }
-    requires ready { D.is_ready deeper.now }
-    requires deeper { message.now.below ≤ D.levels deeper.now }
+    requires deeper { CanRead D.Deeper deeper.now message.now.below }
     ensures { IfOk result (λ argument. argument ≡ argument_by (reader message.now.below) (fields_of message.now.bytes)) }
 {
     match message.oneof(OneOf::ArgumentType) {
@@ -58,17 +57,23 @@ fn member<D: Deeper>(
     won: &Message<'_>,
 ) -> Result<FunctionArgument, NoMemory>
     requires shape { won.now.shape ≡ Shape.FunctionArgument }
-    requires ready { D.is_ready deeper.now }
-    requires deeper { won.now.below ≤ D.levels deeper.now }
+    requires deeper { CanRead D.Deeper deeper.now won.now.below }
     ensures { IfOk result (λ argument. argument ≡ argument_member (reader won.now.below) number (fields_of won.now.bytes)) }
 {
     match number {
-        1 => Ok(FunctionArgument::Enum(won.byte_list(alloc, 1)?)),
-        2 => match type_at(alloc, won, 2)? {
+        field::function_argument::ENUM => Ok(FunctionArgument::Enum(won.byte_list(
+            alloc,
+            field::function_argument::ENUM,
+        )?)),
+        field::function_argument::TYPE => match type_at(
+            alloc,
+            won,
+            field::function_argument::TYPE,
+        )? {
             None => Ok(FunctionArgument::Missing),
             Some(ty) => Ok(FunctionArgument::TypeArgument(ty)),
         },
-        _ => match expr_at(alloc, deeper, won, 3)? {
+        _ => match expr_at(alloc, deeper, won, field::function_argument::VALUE)? {
             None => Ok(FunctionArgument::Missing),
             Some(value) => Ok(FunctionArgument::Value(value)),
         },

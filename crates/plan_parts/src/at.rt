@@ -1,10 +1,11 @@
 // The relations and expressions in a field of a message.
-ghost use Rattle.std.specs.Prelude.{◌≡◌, ◌<◌, ◌≤◌, IfOk};
+ghost use Rattle.std.specs.Prelude.{◌≡◌, ◌+◌, IfOk};
 ghost use Rattle.pb_wire.specs.Payloads.{fields_of};
 ghost use Rattle.plan_scan.specs.Table.{HoldsMessage};
 ghost use Rattle.plan_parts.specs.Shapes.{child, children};
 ghost use Rattle.plan_parts.specs.Rels.{rel_by};
 ghost use Rattle.plan_parts.specs.Exprs.{expression_by};
+ghost use Rattle.plan_parts.specs.CanRead.{CanRead};
 ghost use Rattle.plan_parts.specs.Reader.{reader};
 
 use crate::deeper::Deeper;
@@ -22,8 +23,7 @@ pub fn expr_at<D: Deeper>(
     number: u32,
 ) -> Result<Option<RawExpr>, NoMemory>
     requires shape { HoldsMessage message.now.shape number Shape.Expression }
-    requires ready { D.is_ready deeper.now }
-    requires deeper { message.now.below ≤ D.levels deeper.now }
+    requires deeper { CanRead D.Deeper deeper.now message.now.below }
     ensures { IfOk result (λ expr. expr ≡ child (reader message.now.below) Shape.Expression number (fields_of message.now.bytes)) }
 {
     match message.choice_at(alloc, number, OneOf::RexType)? {
@@ -40,8 +40,7 @@ pub fn boxed_expr_at<D: Deeper>(
     number: u32,
 ) -> Result<Option<Boxed<RawExpr>>, NoMemory>
     requires shape { HoldsMessage message.now.shape number Shape.Expression }
-    requires ready { D.is_ready deeper.now }
-    requires deeper { message.now.below ≤ D.levels deeper.now }
+    requires deeper { CanRead D.Deeper deeper.now message.now.below }
     ensures { IfOk result (λ expr. expr ≡ child (reader message.now.below) Shape.Expression number (fields_of message.now.bytes)) }
 {
     match expr_at(alloc, deeper, message, number)? {
@@ -58,8 +57,7 @@ pub fn exprs_at<D: Deeper>(
     number: u32,
 ) -> Result<Items<RawExpr>, NoMemory>
     requires shape { HoldsMessage message.now.shape number Shape.Expression }
-    requires ready { D.is_ready deeper.now }
-    requires deeper { message.now.below ≤ D.levels deeper.now }
+    requires deeper { CanRead D.Deeper deeper.now message.now.below }
     ensures { IfOk result (λ exprs. exprs ≡ children (reader message.now.below) Shape.Expression number (fields_of message.now.bytes)) }
 {
     let mut exprs = Vec::new(alloc);
@@ -72,8 +70,7 @@ pub fn exprs_at<D: Deeper>(
 
 fn expr_in<D: Deeper>(alloc: Global, deeper: &D, message: &Message<'_>) -> Result<RawExpr, NoMemory>
     requires shape { message.now.shape ≡ Shape.Expression }
-    requires ready { D.is_ready deeper.now }
-    requires deeper { message.now.below < D.levels deeper.now }
+    requires deeper { CanRead D.Deeper deeper.now (message.now.below + 1) }
     ensures { IfOk result (λ expr. expr ≡ expression_by (reader message.now.below) (fields_of message.now.bytes)) }
 {
     let choice = message.choice(alloc, OneOf::RexType)?;
@@ -87,8 +84,7 @@ fn relation_at<D: Deeper>(
     number: u32,
 ) -> Result<Option<RawRel>, NoMemory>
     requires shape { HoldsMessage message.now.shape number Shape.Rel }
-    requires ready { D.is_ready deeper.now }
-    requires deeper { message.now.below ≤ D.levels deeper.now }
+    requires deeper { CanRead D.Deeper deeper.now message.now.below }
     ensures { IfOk result (λ rel. rel ≡ child (reader message.now.below) Shape.Rel number (fields_of message.now.bytes)) }
 {
     match message.choice_at(alloc, number, OneOf::RelType)? {
@@ -105,8 +101,7 @@ pub fn rel_at<D: Deeper>(
     number: u32,
 ) -> Result<Option<Boxed<RawRel>>, NoMemory>
     requires shape { HoldsMessage message.now.shape number Shape.Rel }
-    requires ready { D.is_ready deeper.now }
-    requires deeper { message.now.below ≤ D.levels deeper.now }
+    requires deeper { CanRead D.Deeper deeper.now message.now.below }
     ensures { IfOk result (λ rel. rel ≡ child (reader message.now.below) Shape.Rel number (fields_of message.now.bytes)) }
 {
     match relation_at(alloc, deeper, message, number)? {
@@ -123,8 +118,7 @@ pub fn rels_at<D: Deeper>(
     number: u32,
 ) -> Result<Items<RawRel>, NoMemory>
     requires shape { HoldsMessage message.now.shape number Shape.Rel }
-    requires ready { D.is_ready deeper.now }
-    requires deeper { message.now.below ≤ D.levels deeper.now }
+    requires deeper { CanRead D.Deeper deeper.now message.now.below }
     ensures { IfOk result (λ rels. rels ≡ children (reader message.now.below) Shape.Rel number (fields_of message.now.bytes)) }
 {
     let mut rels = Vec::new(alloc);
@@ -137,8 +131,7 @@ pub fn rels_at<D: Deeper>(
 
 fn rel_in<D: Deeper>(alloc: Global, deeper: &D, message: &Message<'_>) -> Result<RawRel, NoMemory>
     requires shape { message.now.shape ≡ Shape.Rel }
-    requires ready { D.is_ready deeper.now }
-    requires deeper { message.now.below < D.levels deeper.now }
+    requires deeper { CanRead D.Deeper deeper.now (message.now.below + 1) }
     ensures { IfOk result (λ rel. rel ≡ rel_by (reader message.now.below) (fields_of message.now.bytes)) }
 {
     let choice = message.choice(alloc, OneOf::RelType)?;

@@ -7,7 +7,7 @@ ghost use Rattle.plan_parts.specs.Rels.{common_in};
 ghost use Rattle.plan_parts.specs.Reader.{plan_of};
 
 use plan_leaves::{Items, RelCommon};
-use plan_scan::{Message, OneOf, Shape};
+use plan_scan::{Message, OneOf, Shape, field};
 use std::alloc::Global;
 use sub_types::NoMemory;
 
@@ -16,7 +16,7 @@ pub fn common_at(alloc: Global, message: &Message<'_>) -> Result<Option<RelCommo
     requires { HoldsMessage message.now.shape 1 Shape.RelCommon }
     ensures { IfOk result (λ common. common ≡ common_in (fields_of message.now.bytes)) }
 {
-    match message.merged(alloc, 1, Shape::RelCommon)? {
+    match message.merged(alloc, field::COMMON, Shape::RelCommon)? {
         None => Ok(None),
         Some(common) => Ok(Some(rel_common(alloc, &common.message())?)),
     }
@@ -36,10 +36,10 @@ fn member(alloc: Global, number: u32, won: &Message<'_>) -> Result<RelCommon, No
     requires { won.now.shape ≡ Shape.RelCommon }
     ensures { IfOk result (λ common. common ≡ common_member number (fields_of won.now.bytes)) }
 {
-    if number == 1 {
+    if number == field::rel_common::DIRECT {
         return Ok(RelCommon::Direct);
     }
-    match won.merged(alloc, 2, Shape::Emit)? {
+    match won.merged(alloc, field::rel_common::EMIT, Shape::Emit)? {
         None => Ok(RelCommon::Missing),
         Some(emit) => mapped(alloc, &emit.message()),
     }
@@ -49,6 +49,6 @@ fn mapped(alloc: Global, emit: &Message<'_>) -> Result<RelCommon, NoMemory>
     ensures { IfOk result (λ common. common ≡ emit_of (fields_of emit.now.bytes)) }
 {
     Ok(RelCommon::Emit {
-        output_mapping: Items::from_vec(emit.int32s(alloc, 1)?),
+        output_mapping: Items::from_vec(emit.int32s(alloc, field::emit::OUTPUT_MAPPING)?),
     })
 }

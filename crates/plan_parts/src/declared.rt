@@ -7,7 +7,7 @@ ghost use Rattle.plan_parts.specs.Words.{part, parts};
 ghost use Rattle.plan_parts.specs.Parts.{uri_of, function_of, functions_of};
 
 use plan_leaves::{FunDecl, Items, UriDecl};
-use plan_scan::{Message, Shape};
+use plan_scan::{Message, Shape, field};
 use std::alloc::Global;
 use sub_types::NoMemory;
 
@@ -32,8 +32,8 @@ fn extension_uri(alloc: Global, message: &Message<'_>) -> Result<UriDecl, NoMemo
     ensures { IfOk result (λ uri. uri ≡ uri_of (fields_of message.now.bytes)) }
 {
     Ok(UriDecl {
-        anchor: message.uint32(1),
-        uri: message.byte_list(alloc, 2)?,
+        anchor: message.uint32(field::extension_uri::EXTENSION_URI_ANCHOR),
+        uri: message.byte_list(alloc, field::extension_uri::URI)?,
     })
 }
 
@@ -60,7 +60,11 @@ fn function_at(alloc: Global, message: &Message<'_>) -> Result<Option<FunDecl>, 
     requires { message.now.shape ≡ Shape.ExtensionDeclaration }
     ensures { IfOk result (λ function. function ≡ part function_of 3 (fields_of message.now.bytes)) }
 {
-    match message.merged(alloc, 3, Shape::ExtensionFunction)? {
+    match message.merged(
+        alloc,
+        field::extension_declaration::EXTENSION_FUNCTION,
+        Shape::ExtensionFunction,
+    )? {
         None => Ok(None),
         Some(function) => Ok(Some(extension_function(alloc, &function.message())?)),
     }
@@ -70,8 +74,8 @@ fn extension_function(alloc: Global, message: &Message<'_>) -> Result<FunDecl, N
     ensures { IfOk result (λ function. function ≡ function_of (fields_of message.now.bytes)) }
 {
     Ok(FunDecl {
-        uri: message.uint32(1),
-        anchor: message.uint32(2),
-        name: message.byte_list(alloc, 3)?,
+        uri: message.uint32(field::extension_function::EXTENSION_URI_REFERENCE),
+        anchor: message.uint32(field::extension_function::FUNCTION_ANCHOR),
+        name: message.byte_list(alloc, field::extension_function::NAME)?,
     })
 }

@@ -4,7 +4,7 @@ ghost use Rattle.pb_wire.specs.Payloads.{fields_of};
 ghost use Rattle.plan_parts.specs.Parts.{named_table_of, path_member, file_item_of, local_files_of};
 
 use plan_leaves::{FileItem, ItemPath, Items, LocalFiles, NamedTable};
-use plan_scan::{Message, OneOf, Shape};
+use plan_scan::{Message, OneOf, Shape, field};
 use std::alloc::Global;
 use sub_types::NoMemory;
 
@@ -13,7 +13,7 @@ pub fn named_table(alloc: Global, message: &Message<'_>) -> Result<NamedTable, N
     ensures { IfOk result (λ table. table ≡ named_table_of (fields_of message.now.bytes)) }
 {
     Ok(NamedTable {
-        names: Items::from_vec(message.texts(alloc, 1)?),
+        names: Items::from_vec(message.texts(alloc, field::named_table::NAMES)?),
     })
 }
 
@@ -23,7 +23,7 @@ pub fn local_files(alloc: Global, message: &Message<'_>) -> Result<LocalFiles, N
     ensures { IfOk result (λ files. files ≡ local_files_of (fields_of message.now.bytes)) }
 {
     let mut items = Vec::new(alloc);
-    let mut left = message.children(1, Shape::FileItem);
+    let mut left = message.children(field::local_files::ITEMS, Shape::FileItem);
     while let Some(item) = left.next() {
         items.push(file_item(alloc, &item)?)?;
     }
@@ -35,7 +35,7 @@ pub fn local_files(alloc: Global, message: &Message<'_>) -> Result<LocalFiles, N
 fn file_item(alloc: Global, message: &Message<'_>) -> Result<FileItem, NoMemory>
     ensures { IfOk result (λ item. item ≡ file_item_of (fields_of message.now.bytes)) }
 {
-    let arrow = message.has(10);
+    let arrow = message.has(field::file_item::ARROW);
     match message.oneof(OneOf::PathType) {
         None => Ok(FileItem {
             path: ItemPath::Missing,
@@ -51,9 +51,9 @@ fn file_item(alloc: Global, message: &Message<'_>) -> Result<FileItem, NoMemory>
 fn item_path(alloc: Global, number: u32, won: &Message<'_>) -> Result<ItemPath, NoMemory>
     ensures { IfOk result (λ path. path ≡ path_member number (fields_of won.now.bytes)) }
 {
-    if number == 1 {
-        Ok(ItemPath::UriPath(won.byte_list(alloc, 1)?))
+    if number == field::file_item::URI_PATH {
+        Ok(ItemPath::UriPath(won.byte_list(alloc, field::file_item::URI_PATH)?))
     } else {
-        Ok(ItemPath::UriFile(won.byte_list(alloc, 3)?))
+        Ok(ItemPath::UriFile(won.byte_list(alloc, field::file_item::URI_FILE)?))
     }
 }

@@ -9,7 +9,7 @@ ghost use Rattle.plan_parts.specs.Reader.{reader};
 
 use crate::types::type_at;
 use plan_leaves::{Items, LiteralRow, RawLiteral};
-use plan_scan::{Message, OneOf, Shape};
+use plan_scan::{Message, OneOf, Shape, field};
 use std::alloc::Global;
 use sub_types::NoMemory;
 
@@ -50,7 +50,7 @@ fn literal_row(alloc: Global, message: &Message<'_>) -> Result<LiteralRow, NoMem
     ensures { IfOk result (λ row. row ≡ literal_row_by (reader message.now.below) (fields_of message.now.bytes)) }
 {
     let mut fields = Vec::new(alloc);
-    let mut left = message.children(1, Shape::Literal);
+    let mut left = message.children(field::literal_row::FIELDS, Shape::Literal);
     while let Some(field) = left.next() {
         fields.push(literal_of(alloc, &field)?)?;
     }
@@ -64,7 +64,7 @@ pub fn literal_of(alloc: Global, message: &Message<'_>) -> Result<RawLiteral, No
     requires { message.now.shape ≡ Shape.Literal }
     ensures { IfOk result (λ literal. literal ≡ literal_by (reader message.now.below) (fields_of message.now.bytes)) }
 {
-    let nullable = message.boolean(50);
+    let nullable = message.boolean(field::literal::NULLABLE);
     match message.oneof(OneOf::LiteralType) {
         None => Ok(RawLiteral::Missing),
         Some((number, won)) => member(alloc, number, &won, nullable),
@@ -81,44 +81,44 @@ fn member(
     ensures { IfOk result (λ literal. literal ≡ literal_member (reader won.now.below) nullable number (fields_of won.now.bytes)) }
 {
     match number {
-        1 => Ok(RawLiteral::Boolean {
-            value: won.boolean(1),
+        field::literal::BOOLEAN => Ok(RawLiteral::Boolean {
+            value: won.boolean(field::literal::BOOLEAN),
             nullable,
         }),
-        2 => Ok(RawLiteral::I8 {
-            value: won.int32(2),
+        field::literal::I8 => Ok(RawLiteral::I8 {
+            value: won.int32(field::literal::I8),
             nullable,
         }),
-        3 => Ok(RawLiteral::I16 {
-            value: won.int32(3),
+        field::literal::I16 => Ok(RawLiteral::I16 {
+            value: won.int32(field::literal::I16),
             nullable,
         }),
-        5 => Ok(RawLiteral::I32 {
-            value: won.int32(5),
+        field::literal::I32 => Ok(RawLiteral::I32 {
+            value: won.int32(field::literal::I32),
             nullable,
         }),
-        7 => Ok(RawLiteral::I64 {
-            value: won.int64(7),
+        field::literal::I64 => Ok(RawLiteral::I64 {
+            value: won.int64(field::literal::I64),
             nullable,
         }),
-        12 => Ok(RawLiteral::String {
-            value: won.text(alloc, 12)?,
+        field::literal::STRING => Ok(RawLiteral::String {
+            value: won.text(alloc, field::literal::STRING)?,
             nullable,
         }),
-        13 => Ok(RawLiteral::Binary {
-            value: won.byte_list(alloc, 13)?,
+        field::literal::BINARY => Ok(RawLiteral::Binary {
+            value: won.byte_list(alloc, field::literal::BINARY)?,
             nullable,
         }),
-        14 => Ok(RawLiteral::Timestamp {
-            value: won.int64(14),
+        field::literal::TIMESTAMP => Ok(RawLiteral::Timestamp {
+            value: won.int64(field::literal::TIMESTAMP),
             nullable,
         }),
-        16 => Ok(RawLiteral::Date {
-            value: won.int32(16),
+        field::literal::DATE => Ok(RawLiteral::Date {
+            value: won.int32(field::literal::DATE),
             nullable,
         }),
-        24 => decimal_at(alloc, won, nullable),
-        29 => null_at(alloc, won, nullable),
+        field::literal::DECIMAL => decimal_at(alloc, won, nullable),
+        field::literal::NULL => null_at(alloc, won, nullable),
         _ => Ok(RawLiteral::Unknown { number }),
     }
 }
@@ -127,7 +127,7 @@ fn decimal_at(alloc: Global, won: &Message<'_>, nullable: bool) -> Result<RawLit
     requires { won.now.shape ≡ Shape.Literal }
     ensures { IfOk result (λ literal. literal ≡ decimal_in nullable (fields_of won.now.bytes)) }
 {
-    match won.merged(alloc, 24, Shape::DecimalLiteral)? {
+    match won.merged(alloc, field::literal::DECIMAL, Shape::DecimalLiteral)? {
         None => Ok(RawLiteral::Missing),
         Some(found) => decimal(alloc, &found.message(), nullable),
     }
@@ -137,9 +137,9 @@ fn decimal(alloc: Global, message: &Message<'_>, nullable: bool) -> Result<RawLi
     ensures { IfOk result (λ literal. literal ≡ decimal_of nullable (fields_of message.now.bytes)) }
 {
     Ok(RawLiteral::Decimal {
-        value: message.byte_list(alloc, 1)?,
-        precision: message.int32(2),
-        scale: message.int32(3),
+        value: message.byte_list(alloc, field::decimal_literal::VALUE)?,
+        precision: message.int32(field::decimal_literal::PRECISION),
+        scale: message.int32(field::decimal_literal::SCALE),
         nullable,
     })
 }
@@ -148,7 +148,7 @@ fn null_at(alloc: Global, won: &Message<'_>, nullable: bool) -> Result<RawLitera
     requires { won.now.shape ≡ Shape.Literal }
     ensures { IfOk result (λ literal. literal ≡ null_by (reader won.now.below) nullable (fields_of won.now.bytes)) }
 {
-    match type_at(alloc, won, 29)? {
+    match type_at(alloc, won, field::literal::NULL)? {
         None => Ok(RawLiteral::Missing),
         Some(type_) => Ok(RawLiteral::Null { type_, nullable }),
     }

@@ -6,7 +6,7 @@ ghost use Rattle.plan_parts.specs.Words.{part, parts};
 ghost use Rattle.plan_parts.specs.Parts.{mask_item_of, mask_struct_of, mask_of};
 
 use plan_leaves::{Items, MaskExpression, MaskItem, MaskStruct};
-use plan_scan::{Message, Shape};
+use plan_scan::{Message, Shape, field};
 use std::alloc::Global;
 use sub_types::NoMemory;
 
@@ -29,7 +29,7 @@ fn mask_expression(alloc: Global, message: &Message<'_>) -> Result<MaskExpressio
     requires { message.now.shape ≡ Shape.MaskExpression }
     ensures { IfOk result (λ mask. mask ≡ mask_of (fields_of message.now.bytes)) }
 {
-    match message.merged(alloc, 1, Shape::StructSelect)? {
+    match message.merged(alloc, field::mask_expression::SELECT, Shape::StructSelect)? {
         None => Ok(MaskExpression { select: None }),
         Some(select) => Ok(MaskExpression {
             select: Some(mask_struct(alloc, &select.message())?),
@@ -42,7 +42,7 @@ fn mask_struct(alloc: Global, message: &Message<'_>) -> Result<MaskStruct, NoMem
     ensures { IfOk result (λ mask. mask ≡ mask_struct_of (fields_of message.now.bytes)) }
 {
     let mut items = Vec::new(alloc);
-    let mut left = message.children(1, Shape::StructItem);
+    let mut left = message.children(field::struct_select::STRUCT_ITEMS, Shape::StructItem);
     while let Some(item) = left.next() {
         items.push(mask_item(&item))?;
     }
@@ -55,7 +55,7 @@ fn mask_item(message: &Message<'_>) -> MaskItem
     ensures { result ≡ mask_item_of (fields_of message.now.bytes) }
 {
     MaskItem {
-        field: message.int32(1),
-        child: message.has(2),
+        field: message.int32(field::struct_item::FIELD),
+        child: message.has(field::struct_item::CHILD),
     }
 }

@@ -6,7 +6,7 @@ ghost use Rattle.plan_parts.specs.Words.{parts};
 ghost use Rattle.plan_parts.specs.Parts.{option_of};
 
 use plan_leaves::{FunctionOption, Items};
-use plan_scan::{Message, Shape};
+use plan_scan::{Message, Shape, field};
 use std::alloc::Global;
 use sub_types::NoMemory;
 
@@ -31,7 +31,7 @@ fn function_option(alloc: Global, message: &Message<'_>) -> Result<FunctionOptio
     ensures { IfOk result (λ option. option ≡ option_of (fields_of message.now.bytes)) }
 {
     Ok(FunctionOption {
-        name: message.byte_list(alloc, 1)?,
-        preference: Items::from_vec(message.texts(alloc, 2)?),
+        name: message.byte_list(alloc, field::function_option::NAME)?,
+        preference: Items::from_vec(message.texts(alloc, field::function_option::PREFERENCE)?),
     })
 }

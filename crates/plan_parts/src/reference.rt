@@ -7,7 +7,7 @@ ghost use Rattle.plan_parts.specs.Parts.{struct_field_of, segment_of, selection_
 
 use plan_leaves::{ReferenceSegment, StructField};
 use plan_raw::RawExpr;
-use plan_scan::{Message, Shape};
+use plan_scan::{Message, Shape, field};
 use std::alloc::Global;
 use sub_types::NoMemory;
 
@@ -18,8 +18,10 @@ pub fn selection(alloc: Global, message: &Message<'_>) -> Result<RawExpr, NoMemo
 {
     Ok(RawExpr::Selection {
         direct_reference: segment_at(alloc, message)?,
-        root_reference: message.has(4),
-        other: message.has(2) || message.has(3) || message.has(5),
+        root_reference: message.has(field::field_reference::ROOT_REFERENCE),
+        other: message.has(field::field_reference::MASKED_REFERENCE)
+            || message.has(field::field_reference::EXPRESSION)
+            || message.has(field::field_reference::OUTER_REFERENCE),
     })
 }
 
@@ -27,7 +29,11 @@ fn segment_at(alloc: Global, message: &Message<'_>) -> Result<Option<ReferenceSe
     requires { message.now.shape ≡ Shape.FieldReference }
     ensures { IfOk result (λ segment. segment ≡ part segment_of 1 (fields_of message.now.bytes)) }
 {
-    match message.merged(alloc, 1, Shape::ReferenceSegment)? {
+    match message.merged(
+        alloc,
+        field::field_reference::DIRECT_REFERENCE,
+        Shape::ReferenceSegment,
+    )? {
         None => Ok(None),
         Some(segment) => Ok(Some(reference_segment(alloc, &segment.message())?)),
     }
@@ -37,7 +43,11 @@ fn reference_segment(alloc: Global, message: &Message<'_>) -> Result<ReferenceSe
     requires { message.now.shape ≡ Shape.ReferenceSegment }
     ensures { IfOk result (λ segment. segment ≡ segment_of (fields_of message.now.bytes)) }
 {
-    match message.merged(alloc, 2, Shape::StructField)? {
+    match message.merged(
+        alloc,
+        field::reference_segment::STRUCT_FIELD,
+        Shape::StructField,
+    )? {
         None => Ok(ReferenceSegment { struct_field: None }),
         Some(field) => Ok(ReferenceSegment {
             struct_field: Some(struct_field(&field.message())),
@@ -49,7 +59,7 @@ fn struct_field(message: &Message<'_>) -> StructField
     ensures { result ≡ struct_field_of (fields_of message.now.bytes) }
 {
     StructField {
-        field: message.int32(1),
-        child: message.has(2),
+        field: message.int32(field::struct_field::FIELD),
+        child: message.has(field::struct_field::CHILD),
     }
 }

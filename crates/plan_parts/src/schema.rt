@@ -8,7 +8,7 @@ ghost use Rattle.plan_parts.specs.Reader.{reader};
 
 use crate::types::struct_type_at;
 use plan_leaves::{Items, NamedStruct};
-use plan_scan::{Message, Shape};
+use plan_scan::{Message, Shape, field};
 use std::alloc::Global;
 use sub_types::NoMemory;
 
@@ -32,7 +32,7 @@ fn named_struct(alloc: Global, message: &Message<'_>) -> Result<NamedStruct, NoM
     ensures { IfOk result (λ schema. schema ≡ named_struct_by (reader message.now.below) (fields_of message.now.bytes)) }
 {
     Ok(NamedStruct {
-        names: Items::from_vec(message.texts(alloc, 1)?),
-        struct_: struct_type_at(alloc, message, 2)?,
+        names: Items::from_vec(message.texts(alloc, field::named_struct::NAMES)?),
+        struct_: struct_type_at(alloc, message, field::named_struct::STRUCT)?,
     })
 }

@@ -8,7 +8,7 @@ ghost use Rattle.plan_parts.specs.Types.{nullability_of, decimal_type_of, decima
 ghost use Rattle.plan_parts.specs.Reader.{reader};
 
 use plan_leaves::{Items, RawType, StructType};
-use plan_scan::{Message, OneOf, Shape};
+use plan_scan::{Message, OneOf, Shape, field};
 use std::alloc::Global;
 use sub_types::NoMemory;
 
@@ -59,35 +59,39 @@ fn member(alloc: Global, number: u32, won: &Message<'_>) -> Result<RawType, NoMe
     ensures { IfOk result (λ ty. ty ≡ type_member (reader won.now.below) number (fields_of won.now.bytes)) }
 {
     match number {
-        1 => Ok(RawType::Bool {
-            nullability: nullability_at(alloc, won, 1)?,
+        field::data_type::BOOL => Ok(RawType::Bool {
+            nullability: nullability_at(alloc, won, field::data_type::BOOL)?,
         }),
-        2 => Ok(RawType::I8 {
-            nullability: nullability_at(alloc, won, 2)?,
+        field::data_type::I8 => Ok(RawType::I8 {
+            nullability: nullability_at(alloc, won, field::data_type::I8)?,
         }),
-        3 => Ok(RawType::I16 {
-            nullability: nullability_at(alloc, won, 3)?,
+        field::data_type::I16 => Ok(RawType::I16 {
+            nullability: nullability_at(alloc, won, field::data_type::I16)?,
         }),
-        5 => Ok(RawType::I32 {
-            nullability: nullability_at(alloc, won, 5)?,
+        field::data_type::I32 => Ok(RawType::I32 {
+            nullability: nullability_at(alloc, won, field::data_type::I32)?,
         }),
-        7 => Ok(RawType::I64 {
-            nullability: nullability_at(alloc, won, 7)?,
+        field::data_type::I64 => Ok(RawType::I64 {
+            nullability: nullability_at(alloc, won, field::data_type::I64)?,
         }),
-        12 => Ok(RawType::String {
-            nullability: nullability_at(alloc, won, 12)?,
+        field::data_type::STRING => Ok(RawType::String {
+            nullability: nullability_at(alloc, won, field::data_type::STRING)?,
         }),
-        13 => Ok(RawType::Binary {
-            nullability: nullability_at(alloc, won, 13)?,
+        field::data_type::BINARY => Ok(RawType::Binary {
+            nullability: nullability_at(alloc, won, field::data_type::BINARY)?,
         }),
-        14 => Ok(RawType::Timestamp {
-            nullability: nullability_at(alloc, won, 14)?,
+        field::data_type::TIMESTAMP => Ok(RawType::Timestamp {
+            nullability: nullability_at(alloc, won, field::data_type::TIMESTAMP)?,
         }),
-        16 => Ok(RawType::Date {
-            nullability: nullability_at(alloc, won, 16)?,
+        field::data_type::DATE => Ok(RawType::Date {
+            nullability: nullability_at(alloc, won, field::data_type::DATE)?,
         }),
-        24 => decimal_type_at(alloc, won),
-        25 => match won.merged(alloc, 25, Shape::StructType)? {
+        field::data_type::DECIMAL => decimal_type_at(alloc, won),
+        field::data_type::STRUCT => match won.merged(
+            alloc,
+            field::data_type::STRUCT,
+            Shape::StructType,
+        )? {
             None => Ok(RawType::Missing),
             Some(inner) => Ok(RawType::Struct {
                 types: struct_type(alloc, &inner.message())?.types,
@@ -103,7 +107,7 @@ fn struct_type(alloc: Global, message: &Message<'_>) -> Result<StructType, NoMem
     ensures { IfOk result (λ ty. ty ≡ struct_type_by (reader message.now.below) (fields_of message.now.bytes)) }
 {
     let mut types = Vec::new(alloc);
-    let mut left = message.children(1, Shape::DataType);
+    let mut left = message.children(field::struct_type::TYPES, Shape::DataType);
     while let Some(ty) = left.next() {
         types.push(data_type(alloc, &ty)?)?;
     }
@@ -118,7 +122,7 @@ fn nullability_at(alloc: Global, won: &Message<'_>, number: u32) -> Result<u32, 
 {
     match won.merged(alloc, number, Shape::PlainType)? {
         None => Ok(0),
-        Some(plain) => Ok(plain.message().uint32(2)),
+        Some(plain) => Ok(plain.message().uint32(field::plain_type::NULLABILITY)),
     }
 }
 
@@ -126,7 +130,7 @@ fn decimal_type_at(alloc: Global, won: &Message<'_>) -> Result<RawType, NoMemory
     requires { won.now.shape ≡ Shape.DataType }
     ensures { IfOk result (λ ty. ty ≡ decimal_type_in (fields_of won.now.bytes)) }
 {
-    match won.merged(alloc, 24, Shape::DecimalType)? {
+    match won.merged(alloc, field::data_type::DECIMAL, Shape::DecimalType)? {
         None => Ok(RawType::Missing),
         Some(decimal) => Ok(decimal_type(&decimal.message())),
     }
@@ -136,8 +140,8 @@ fn decimal_type(message: &Message<'_>) -> RawType
     ensures { result ≡ decimal_type_of (fields_of message.now.bytes) }
 {
     RawType::Decimal {
-        scale: message.int32(1),
-        precision: message.int32(2),
-        nullability: message.uint32(4),
+        scale: message.int32(field::decimal_type::SCALE),
+        precision: message.int32(field::decimal_type::PRECISION),
+        nullability: message.uint32(field::decimal_type::NULLABILITY),
     }
 }

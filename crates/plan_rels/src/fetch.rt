@@ -1,13 +1,14 @@
 // Fetch relations (Substrait `FetchRel`).
-ghost use Rattle.std.specs.Prelude.{◌≡◌, ◌≤◌, IfOk};
+ghost use Rattle.std.specs.Prelude.{◌≡◌, IfOk};
 ghost use Rattle.pb_wire.specs.Payloads.{fields_of};
 ghost use Rattle.plan_parts.specs.Rels.{fetch_by, offset_by, offset_member, count_by, count_member};
+ghost use Rattle.plan_parts.specs.CanRead.{CanRead};
 ghost use Rattle.plan_parts.specs.Reader.{reader};
 
 use plan_leaves::zip;
 use plan_parts::{Deeper, boxed_expr_at, common_at, rel_at};
 use plan_raw::{RawCount, RawOffset, RawRel};
-use plan_scan::{Message, OneOf, Shape};
+use plan_scan::{Message, OneOf, Shape, field};
 use std::alloc::Global;
 use sub_types::NoMemory;
 
@@ -18,12 +19,14 @@ pub(crate) fn fetch<D: Deeper>(
     message: &Message<'_>,
 ) -> Result<RawRel, NoMemory>
     requires shape { message.now.shape ≡ Shape.FetchRel }
-    requires ready { D.is_ready deeper.now }
-    requires deeper { message.now.below ≤ D.levels deeper.now }
+    requires deeper { CanRead D.Deeper deeper.now message.now.below }
     ensures { IfOk result (λ rel. rel ≡ fetch_by (reader message.now.below) (fields_of message.now.bytes)) }
 {
     let ((common, input), (offset, count)) = zip(
-        zip(common_at(alloc, message), rel_at(alloc, deeper, message, 2)),
+        zip(
+            common_at(alloc, message),
+            rel_at(alloc, deeper, message, field::fetch_rel::INPUT),
+        ),
         zip(
             offset(alloc, deeper, message),
             count(alloc, deeper, message),
@@ -43,8 +46,7 @@ fn offset<D: Deeper>(
     message: &Message<'_>,
 ) -> Result<RawOffset, NoMemory>
     requires shape { message.now.shape ≡ Shape.FetchRel }
-    requires ready { D.is_ready deeper.now }
-    requires deeper { message.now.below ≤ D.levels deeper.now }
+    requires deeper { CanRead D.Deeper deeper.now message.now.below }
     ensures { IfOk result (λ offset. offset ≡ offset_by (reader message.now.below) (fields_of message.now.bytes)) }
 {
     match message.oneof(OneOf::OffsetMode) {
@@ -60,14 +62,13 @@ fn offset_in<D: Deeper>(
     won: &Message<'_>,
 ) -> Result<RawOffset, NoMemory>
     requires shape { won.now.shape ≡ Shape.FetchRel }
-    requires ready { D.is_ready deeper.now }
-    requires deeper { won.now.below ≤ D.levels deeper.now }
+    requires deeper { CanRead D.Deeper deeper.now won.now.below }
     ensures { IfOk result (λ offset. offset ≡ offset_member (reader won.now.below) number (fields_of won.now.bytes)) }
 {
-    if number == 3 {
-        return Ok(RawOffset::Offset(won.int64(3)));
+    if number == field::fetch_rel::OFFSET {
+        return Ok(RawOffset::Offset(won.int64(field::fetch_rel::OFFSET)));
     }
-    match boxed_expr_at(alloc, deeper, won, 5)? {
+    match boxed_expr_at(alloc, deeper, won, field::fetch_rel::OFFSET_EXPR)? {
         None => Ok(RawOffset::Missing),
         Some(expr) => Ok(RawOffset::OffsetExpr(expr)),
     }
@@ -75,8 +76,7 @@ fn offset_in<D: Deeper>(
 
 fn count<D: Deeper>(alloc: Global, deeper: &D, message: &Message<'_>) -> Result<RawCount, NoMemory>
     requires shape { message.now.shape ≡ Shape.FetchRel }
-    requires ready { D.is_ready deeper.now }
-    requires deeper { message.now.below ≤ D.levels deeper.now }
+    requires deeper { CanRead D.Deeper deeper.now message.now.below }
     ensures { IfOk result (λ count. count ≡ count_by (reader message.now.below) (fields_of message.now.bytes)) }
 {
     match message.oneof(OneOf::CountMode) {
@@ -92,14 +92,13 @@ fn count_in<D: Deeper>(
     won: &Message<'_>,
 ) -> Result<RawCount, NoMemory>
     requires shape { won.now.shape ≡ Shape.FetchRel }
-    requires ready { D.is_ready deeper.now }
-    requires deeper { won.now.below ≤ D.levels deeper.now }
+    requires deeper { CanRead D.Deeper deeper.now won.now.below }
     ensures { IfOk result (λ count. count ≡ count_member (reader won.now.below) number (fields_of won.now.bytes)) }
 {
-    if number == 4 {
-        return Ok(RawCount::Count(won.int64(4)));
+    if number == field::fetch_rel::COUNT {
+        return Ok(RawCount::Count(won.int64(field::fetch_rel::COUNT)));
     }
-    match boxed_expr_at(alloc, deeper, won, 6)? {
+    match boxed_expr_at(alloc, deeper, won, field::fetch_rel::COUNT_EXPR)? {
         None => Ok(RawCount::Missing),
         Some(expr) => Ok(RawCount::CountExpr(expr)),
     }

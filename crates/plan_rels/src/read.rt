@@ -1,9 +1,10 @@
 // Read relations (Substrait `ReadRel`).
-ghost use Rattle.std.specs.Prelude.{◌≡◌, ◌≤◌, IfOk};
+ghost use Rattle.std.specs.Prelude.{◌≡◌, IfOk};
 ghost use Rattle.pb_wire.specs.Payloads.{fields_of};
 ghost use Rattle.plan_scan.specs.Table.{HoldsMessage};
 ghost use Rattle.plan_parts.specs.Shapes.{children};
 ghost use Rattle.plan_parts.specs.Rels.{expression_row_by, virtual_table_by, source_by, source_member, read_by};
+ghost use Rattle.plan_parts.specs.CanRead.{CanRead};
 ghost use Rattle.plan_parts.specs.Reader.{reader};
 
 use plan_leaves::{Items, zip};
@@ -12,7 +13,7 @@ use plan_parts::{
     named_struct_at, named_table,
 };
 use plan_raw::{ExprRow, RawRel, RawSource, VirtualTable};
-use plan_scan::{Message, OneOf, Shape};
+use plan_scan::{Message, OneOf, Shape, field};
 use std::alloc::Global;
 use sub_types::NoMemory;
 
@@ -23,17 +24,16 @@ pub(crate) fn read<D: Deeper>(
     message: &Message<'_>,
 ) -> Result<RawRel, NoMemory>
     requires shape { message.now.shape ≡ Shape.ReadRel }
-    requires ready { D.is_ready deeper.now }
-    requires deeper { message.now.below ≤ D.levels deeper.now }
+    requires deeper { CanRead D.Deeper deeper.now message.now.below }
     ensures { IfOk result (λ rel. rel ≡ read_by (reader message.now.below) (fields_of message.now.bytes)) }
 {
     let filters = zip(
-        boxed_expr_at(alloc, deeper, message, 3),
-        boxed_expr_at(alloc, deeper, message, 11),
+        boxed_expr_at(alloc, deeper, message, field::read_rel::FILTER),
+        boxed_expr_at(alloc, deeper, message, field::read_rel::BEST_EFFORT_FILTER),
     );
     let columns = zip(
-        named_struct_at(alloc, message, 2),
-        mask_at(alloc, message, 4),
+        named_struct_at(alloc, message, field::read_rel::BASE_SCHEMA),
+        mask_at(alloc, message, field::read_rel::PROJECTION),
     );
     let ((common, source), (columns, filters)) = zip(
         zip(common_at(alloc, message), source(alloc, deeper, message)),
@@ -57,8 +57,7 @@ fn source<D: Deeper>(
     message: &Message<'_>,
 ) -> Result<RawSource, NoMemory>
     requires shape { message.now.shape ≡ Shape.ReadRel }
-    requires ready { D.is_ready deeper.now }
-    requires deeper { message.now.below ≤ D.levels deeper.now }
+    requires deeper { CanRead D.Deeper deeper.now message.now.below }
     ensures { IfOk result (λ source. source ≡ source_by (reader message.now.below) (fields_of message.now.bytes)) }
 {
     match message.oneof(OneOf::ReadType) {
@@ -74,12 +73,15 @@ fn source_in<D: Deeper>(
     won: &Message<'_>,
 ) -> Result<RawSource, NoMemory>
     requires shape { won.now.shape ≡ Shape.ReadRel }
-    requires ready { D.is_ready deeper.now }
-    requires deeper { won.now.below ≤ D.levels deeper.now }
+    requires deeper { CanRead D.Deeper deeper.now won.now.below }
     ensures { IfOk result (λ source. source ≡ source_member (reader won.now.below) number (fields_of won.now.bytes)) }
 {
     match number {
-        5 => match won.merged(alloc, 5, Shape::VirtualTable)? {
+        field::read_rel::VIRTUAL_TABLE => match won.merged(
+            alloc,
+            field::read_rel::VIRTUAL_TABLE,
+            Shape::VirtualTable,
+        )? {
             None => Ok(RawSource::Missing),
             Some(found) => Ok(RawSource::VirtualTable(virtual_table(
                 alloc,
@@ -87,11 +89,15 @@ fn source_in<D: Deeper>(
                 &found.message(),
             )?)),
         },
-        6 => match won.merged(alloc, 6, Shape::LocalFiles)? {
+        field::read_rel::LOCAL_FILES => match won.merged(
+            alloc,
+            field::read_rel::LOCAL_FILES,
+            Shape::LocalFiles,
+        )? {
             None => Ok(RawSource::Missing),
             Some(found) => Ok(RawSource::LocalFiles(local_files(alloc, &found.message())?)),
         },
-        _ => match won.merged(alloc, 7, Shape::NamedTable)? {
+        _ => match won.merged(alloc, field::read_rel::NAMED_TABLE, Shape::NamedTable)? {
             None => Ok(RawSource::Missing),
             Some(found) => Ok(RawSource::NamedTable(named_table(alloc, &found.message())?)),
         },
@@ -104,13 +110,12 @@ fn virtual_table<D: Deeper>(
     message: &Message<'_>,
 ) -> Result<VirtualTable, NoMemory>
     requires shape { message.now.shape ≡ Shape.VirtualTable }
-    requires ready { D.is_ready deeper.now }
-    requires deeper { message.now.below ≤ D.levels deeper.now }
+    requires deeper { CanRead D.Deeper deeper.now message.now.below }
     ensures { IfOk result (λ table. table ≡ virtual_table_by (reader message.now.below) (fields_of message.now.bytes)) }
 {
     let (values, expressions) = zip(
-        literal_rows_at(alloc, message, 1),
-        rows_at(alloc, deeper, message, 2),
+        literal_rows_at(alloc, message, field::virtual_table::VALUES),
+        rows_at(alloc, deeper, message, field::virtual_table::EXPRESSIONS),
     )?;
     Ok(VirtualTable {
         values,
@@ -125,8 +130,7 @@ fn rows_at<D: Deeper>(
     number: u32,
 ) -> Result<Items<ExprRow>, NoMemory>
     requires shape { HoldsMessage message.now.shape number Shape.ExpressionRow }
-    requires ready { D.is_ready deeper.now }
-    requires deeper { message.now.below ≤ D.levels deeper.now }
+    requires deeper { CanRead D.Deeper deeper.now message.now.below }
     ensures { IfOk result (λ rows. rows ≡ children (reader message.now.below) Shape.ExpressionRow number (fields_of message.now.bytes)) }
 {
     let mut rows = Vec::new(alloc);
@@ -139,11 +143,10 @@ fn rows_at<D: Deeper>(
 
 fn row<D: Deeper>(alloc: Global, deeper: &D, message: &Message<'_>) -> Result<ExprRow, NoMemory>
     requires shape { message.now.shape ≡ Shape.ExpressionRow }
-    requires ready { D.is_ready deeper.now }
-    requires deeper { message.now.below ≤ D.levels deeper.now }
+    requires deeper { CanRead D.Deeper deeper.now message.now.below }
     ensures { IfOk result (λ row. row ≡ expression_row_by (reader message.now.below) (fields_of message.now.bytes)) }
 {
     Ok(ExprRow {
-        fields: exprs_at(alloc, deeper, message, 1)?,
+        fields: exprs_at(alloc, deeper, message, field::expression_row::FIELDS)?,
     })
 }

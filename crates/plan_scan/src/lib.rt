@@ -1,11 +1,13 @@
 //! Which bytes of a plan are readable, with the first flaw of those that aren't, and the messages of a readable
-//! plan, by field. It stands on `pb_wire`, and on `simdutf8` for texts. The first flaw and the table of messages
-//! and fields are defined in its own `specs/`; what a field gives is `pb_wire`'s `specs/Payloads.antt`.
+//! plan, by field, whose numbers `field` names. It stands on `pb_wire`, and on `simdutf8` for texts. The first flaw
+//! and the table of messages and fields are defined in its own `specs/`; what a field gives is `pb_wire`'s
+//! `specs/Payloads.antt`.
 #![tactic(auto)]
 
 mod blocks;
 mod children;
 mod choice;
+pub mod field;
 mod flaw;
 mod index;
 mod laws;

@@ -4,6 +4,7 @@ ghost use Rattle.pb_wire.specs.Seen.{content_of, field_seen};
 ghost use Rattle.plan_scan.specs.Member as member;
 ghost use Rattle.plan_scan.specs.Member.{owner, has_number, has_wire_type, is_member};
 
+use crate::field;
 use crate::shape::{Shape, Use};
 use crate::table::use_of_field;
 use pb_wire::{Payload, Record};
@@ -70,13 +71,23 @@ impl OneOf {
         ensures { result ≡ has_number self number }
     {
         match self {
-            OneOf::PlanRelType | OneOf::EmitKind => number == 1 || number == 2,
-            OneOf::ReadType => number == 5 || number == 6 || number == 7,
-            OneOf::PathType => number == 1 || number == 3,
-            OneOf::OffsetMode => number == 3 || number == 5,
-            OneOf::CountMode => number == 4 || number == 6,
-            OneOf::ArgumentType => number == 1 || number == 2 || number == 3,
-            OneOf::LiteralType => !(number == 50 || number == 51),
+            OneOf::PlanRelType => number == field::plan_rel::REL || number == field::plan_rel::ROOT,
+            OneOf::EmitKind => number == field::rel_common::DIRECT
+                || number == field::rel_common::EMIT,
+            OneOf::ReadType => number == field::read_rel::VIRTUAL_TABLE
+                || number == field::read_rel::LOCAL_FILES
+                || number == field::read_rel::NAMED_TABLE,
+            OneOf::PathType => number == field::file_item::URI_PATH
+                || number == field::file_item::URI_FILE,
+            OneOf::OffsetMode => number == field::fetch_rel::OFFSET
+                || number == field::fetch_rel::OFFSET_EXPR,
+            OneOf::CountMode => number == field::fetch_rel::COUNT
+                || number == field::fetch_rel::COUNT_EXPR,
+            OneOf::ArgumentType => number == field::function_argument::ENUM
+                || number == field::function_argument::TYPE
+                || number == field::function_argument::VALUE,
+            OneOf::LiteralType => !(number == field::literal::NULLABLE
+                || number == field::literal::TYPE_VARIATION_REFERENCE),
             OneOf::RelType | OneOf::RexType | OneOf::TypeKind | OneOf::SubqueryType => true,
         }
     }
