@@ -1,4 +1,6 @@
 // Checked expressions.
+ghost use Rattle.std.specs.Prelude.{◌≡◌};
+
 use plan_leaves::{Boxed, Items};
 use sub_types::{Ty, Value};
 
@@ -92,4 +94,23 @@ pub enum Expr {
         null_on_fail: bool,
         ty: Ty,
     },
+}
+
+impl Expr {
+    ghost use Rattle.plan_typed.specs.Types.{ty_of};
+
+    /// The expression's type.
+    pub fn ty(&self) -> Ty
+        ensures { result ≡ ty_of self.now }
+    {
+        match self {
+            Expr::Const { ty, .. }
+            | Expr::Column { ty, .. }
+            | Expr::Call { ty, .. }
+            | Expr::If { ty, .. }
+            | Expr::Switch { ty, .. }
+            | Expr::OneOf { ty, .. }
+            | Expr::Cast { ty, .. } => *ty,
+        }
+    }
 }
