@@ -1,3 +1,4 @@
 pub mod ListLaws
 pub mod ApartLaws
 pub mod KindLaws
+pub mod KeyLaws

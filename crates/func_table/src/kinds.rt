@@ -33,7 +33,7 @@ pub(crate) fn is_same(a: Kind, b: Kind) -> bool
 }
 
 /// Whether two kinds are equal.
-pub(crate) fn is_equal(a: Kind, b: Kind) -> bool
+pub fn is_equal(a: Kind, b: Kind) -> bool
     ensures { result ≡ spec.is_equal a b }
 {
     a == b

@@ -4,6 +4,7 @@
 //! that an entry takes in `Entry.antt`, the row of a call in `Find.antt`, and the options in `Options.antt`.
 #![tactic(auto)]
 
+mod key;
 mod kinds;
 mod laws;
 mod line;
@@ -11,8 +12,11 @@ mod look_up;
 mod options;
 mod row;
 mod table;
+mod text;
 
+pub use key::is_key_of_kinds;
+pub use kinds::is_equal;
 pub use laws::{equal_kinds_are_equal, one_row_fits};
-pub use look_up::{find, has_name};
-pub use options::honours;
+pub use look_up::{find, find_bytes, has_name, has_name_bytes};
+pub use options::{honours, honours_bytes};
 pub use row::{Class, ResultRule, Row};

@@ -6,6 +6,7 @@ ghost use Rattle.func_table.specs.Seen.{entry_seen, arguments_seen};
 
 use crate::kinds::{is_equal, is_same, short_name};
 use crate::row::{Class, Row};
+use crate::text::is_text;
 use sub_types::Kind;
 
 /// The arguments of a function, by the short names of their kinds.
@@ -37,14 +38,15 @@ pub(crate) struct Line {
 
 impl Line {
     /// Whether the line is of the function of this file, name and class.
-    pub(crate) fn is_named(&self, file: &str, name: &str, class: Class) -> bool
+    pub(crate) fn is_named(&self, file: &[u8], name: &[u8], class: Class) -> bool
         ensures { result ≡ spec.is_named file.now name.now class (entry_seen self.now) }
     {
-        self.file == file && self.row.name == name && self.class == class
+        // Names tell more lines apart than files do.
+        is_text(self.row.name, name) && is_text(self.file, file) && self.class == class
     }
 
     /// Whether the line is of that function, and takes arguments of these kinds.
-    pub(crate) fn fits(&self, file: &str, name: &str, kinds: &[Kind], class: Class) -> bool
+    pub(crate) fn fits(&self, file: &[u8], name: &[u8], kinds: &[Kind], class: Class) -> bool
         ensures { result ≡ spec.fits file.now name.now kinds.now class (entry_seen self.now) }
     {
         self.is_named(file, name, class) && self.params.take(kinds) && self.alike.all_agree(kinds)

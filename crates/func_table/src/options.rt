@@ -6,6 +6,7 @@ ghost use Rattle.func_table.specs.Options as spec;
 ghost use Rattle.func_table.specs.Seen.{seen, choice_seen};
 
 use crate::row::Row;
+use crate::text::is_text;
 use plan_typed::Func;
 
 /// An option, and the values of it that are honoured.
@@ -45,22 +46,32 @@ pub fn honours(row: &Row, option: &str, preference: &str) -> Option<bool>
     requires { IsRow (seen row.now) }
     ensures { result ≡ spec.honoured (seen row.now) option.now preference.now }
 {
+    honours_bytes(row, option.as_bytes(), preference.as_bytes())
+}
+
+/// The same of an option and a value in bytes.
+pub fn honours_bytes(row: &Row, option: &[u8], preference: &[u8]) -> Option<bool>
+    requires { IsRow (seen row.now) }
+    ensures { result ≡ spec.honoured (seen row.now) option.now preference.now }
+{
     let choice = choice_of(row, option)?;
     Some(choice.is_honoured(preference))
 }
 
 impl Choice {
-    fn is_honoured(&self, value: &str) -> bool
+    fn is_honoured(&self, value: &[u8]) -> bool
         ensures { result ≡ spec.is_honoured value.now (choice_seen self.now) }
     {
-        self.values.iter().any(|one| *one == value)
+        self.values.iter().any(|one| is_text(one, value))
     }
 }
 
-fn choice_of(row: &Row, name: &str) -> Option<&'static Choice>
+fn choice_of(row: &Row, name: &[u8]) -> Option<&'static Choice>
     ensures { option_map (λ choice. choice_seen choice.now) result ≡ spec.choice_of (seen row.now) name.now }
 {
-    options_of(row).iter().find(|choice| choice.option == name)
+    options_of(row)
+        .iter()
+        .find(|choice| is_text(choice.option, name))
 }
 
 fn options_of(row: &Row) -> &'static [Choice]

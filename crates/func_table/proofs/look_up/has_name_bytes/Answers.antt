@@ -5,7 +5,7 @@ use Rattle.std.proofs.lemmas.Iterator.Search.{any_from_yields_List}
 use Rattle.func_table.specs.Entry.{is_named}
 use Rattle.func_table.specs.Seen.{entry_seen}
 use Rattle.func_table.proofs.ListLaws.{list_any-map}
-use Rattle.func_table.proofs.look_up.has_name.Goals as goal
+use Rattle.func_table.proofs.look_up.has_name_bytes.Goals as goal
 
 pub returns : goal.returns
 returns c =

@@ -3,7 +3,7 @@ use Rattle.std.specs.Option.{option_map}
 use Rattle.func_table.specs.Entry.{fits}
 use Rattle.func_table.specs.Table.{table}
 use Rattle.func_table.proofs.ListLaws.{found_Contains}
-use Rattle.func_table.proofs.look_up.find.Goals as goal
+use Rattle.func_table.proofs.look_up.find_bytes.Goals as goal
 
 pub returns-clause-of_table : goal.returns-clause-of_table
 returns-clause-of_table c =
