@@ -9,13 +9,16 @@ abbrev filter : RawRel
 filter = r.Filter None (Some (r.Cross None (Some r.Missing) (Some r.Missing))) (Some (e.Scalar (Some r.Missing)))
 
 pub five_relations : relation_count filter ≡ 5
+unfolding relation_count
 five_relations = search (rules, the_lemmas)
 
 pub cross_is_one : input_numbers 0 filter ≡ 1 ∷ []
 cross_is_one = search (rules, the_lemmas)
 
 pub subquery_is_four : subquery_number 0 filter ≡ 4
+unfolding relation_count
 subquery_is_four = search (rules, the_lemmas)
 
 pub inputs_of_cross : input_numbers 1 (r.Cross None (Some r.Missing) (Some r.Missing)) ≡ 2 ∷ 3 ∷ []
+unfolding relation_count
 inputs_of_cross = search (rules, the_lemmas)

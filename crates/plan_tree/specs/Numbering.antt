@@ -3,21 +3,21 @@
 use Rattle.std.specs.Prelude.{ℕ, ◌+◌, List, [], ◌∷◌, ◌++◌, Option, sum, map, unwrap_or}
 use Rattle.std.specs.List.{concat}
 use Rattle.std.specs.Option.{option_to_list}
-use Rattle.plan_raw.specs.declared.aggregate.AggregateFunction.{AggregateFunction-F}
-use Rattle.plan_raw.specs.declared.aggregate.Grouping.{Grouping-F}
-use Rattle.plan_raw.specs.declared.aggregate.Measure.{Measure-F}
-use Rattle.plan_raw.specs.declared.aggregate.SortField.{SortField-F}
-use Rattle.plan_raw.specs.declared.argument.FunctionArgument.{FunctionArgument-F}
-use Rattle.plan_raw.specs.declared.expr.IfClause.{IfClause-F}
-use Rattle.plan_raw.specs.declared.expr.IfValue.{IfValue-F}
-use Rattle.plan_raw.specs.declared.expr.RawExpr.{RawExpr-F}
-use Rattle.plan_raw.specs.declared.rel.RawCount.{RawCount-F}
-use Rattle.plan_raw.specs.declared.rel.RawOffset.{RawOffset-F}
+use Rattle.plan_raw.specs.declared.aggregate.AggregateFunction.{AggregateFunction, AggregateFunction-F}
+use Rattle.plan_raw.specs.declared.aggregate.Grouping.{Grouping, Grouping-F}
+use Rattle.plan_raw.specs.declared.aggregate.Measure.{Measure, Measure-F}
+use Rattle.plan_raw.specs.declared.aggregate.SortField.{SortField, SortField-F}
+use Rattle.plan_raw.specs.declared.argument.FunctionArgument.{FunctionArgument, FunctionArgument-F}
+use Rattle.plan_raw.specs.declared.expr.IfClause.{IfClause, IfClause-F}
+use Rattle.plan_raw.specs.declared.expr.IfValue.{IfValue, IfValue-F}
+use Rattle.plan_raw.specs.declared.expr.RawExpr.{RawExpr, RawExpr-F}
+use Rattle.plan_raw.specs.declared.rel.RawCount.{RawCount, RawCount-F}
+use Rattle.plan_raw.specs.declared.rel.RawOffset.{RawOffset, RawOffset-F}
 use Rattle.plan_raw.specs.declared.rel.RawRel.{RawRel, RawRel-F, out-RawRel}
-use Rattle.plan_raw.specs.declared.source.ExprRow.{ExprRow-F}
-use Rattle.plan_raw.specs.declared.source.RawSource.{RawSource-F}
+use Rattle.plan_raw.specs.declared.source.ExprRow.{ExprRow, ExprRow-F}
+use Rattle.plan_raw.specs.declared.source.RawSource.{RawSource, RawSource-F}
 use Rattle.plan_raw.specs.declared.source.VirtualTable.{VirtualTable-F}
-use Rattle.plan_tree.specs.Fold.{Level, Opened, With, Steps, fold_relation}
+use Rattle.plan_tree.specs.Fold.{Level, Opened, With, Steps, fold_argument, fold_expression, fold_count, fold_offset, fold_relation, fold_source, fold_function, fold_grouping, fold_measure, fold_sort, fold_clause, fold_value, fold_row}
 use Rattle.plan_typed.specs.declared.rel.Rel.{Rel, fold-Rel}
 use Rattle.plan_typed.specs.declared.rel.Op.TheOpen.{Op-F}
 
@@ -126,8 +126,45 @@ counts = record {
 }
 
 -- how many relations a relation holds: itself, and those below it and in its subqueries
-abbrev pub relation_count : RawRel → ℕ
-relation_count rel = fold_relation counts rel
+unfoldable pub relation_count : RawRel → ℕ
+relation_count = fold_relation counts
+
+-- how many relations each message inside a relation holds
+unfoldable pub count_in_argument : FunctionArgument → ℕ
+count_in_argument = fold_argument counts
+
+unfoldable pub count_in_expression : RawExpr → ℕ
+count_in_expression = fold_expression counts
+
+unfoldable pub count_in_count : RawCount → ℕ
+count_in_count = fold_count counts
+
+unfoldable pub count_in_offset : RawOffset → ℕ
+count_in_offset = fold_offset counts
+
+unfoldable pub count_in_source : RawSource → ℕ
+count_in_source = fold_source counts
+
+unfoldable pub count_in_function : AggregateFunction → ℕ
+count_in_function = fold_function counts
+
+unfoldable pub count_in_grouping : Grouping → ℕ
+count_in_grouping = fold_grouping counts
+
+unfoldable pub count_in_measure : Measure → ℕ
+count_in_measure = fold_measure counts
+
+unfoldable pub count_in_sort : SortField → ℕ
+count_in_sort = fold_sort counts
+
+unfoldable pub count_in_clause : IfClause → ℕ
+count_in_clause = fold_clause counts
+
+unfoldable pub count_in_value : IfValue → ℕ
+count_in_value = fold_value counts
+
+unfoldable pub count_in_row : ExprRow → ℕ
+count_in_row = fold_row counts
 
 -- the inputs at one level of a relation, from left to right
 abbrev pub inputs_in : Opened RawRel-F → List RawRel
