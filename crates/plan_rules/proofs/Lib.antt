@@ -1,0 +1,7 @@
+pub mod TextLaws
+pub mod ListLaws
+pub mod StepLaws
+pub mod NameLaws
+pub mod MarkLaws
+pub mod SameLaws
+pub mod EqualLaws

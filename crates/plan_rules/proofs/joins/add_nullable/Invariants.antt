@@ -1,0 +1,7 @@
+use Rattle.std.proofs.Common.{◌≡◌, ◌++◌, take}
+use Rattle.plan_verdict.specs.Rels as spec
+use Rattle.plan_rules.proofs.joins.add_nullable.Given as goal
+
+-- the first so many columns stand behind those that were there
+abbrev pub invariant-loop-column : goal.invariant-loop-column
+invariant-loop-column l = l.columns ≡ l.initial.columns ++ spec.nullable (take l.column-index l.more)

@@ -1,0 +1,11 @@
+use Rattle.std.proofs.Common.{rules, tests, ◌∙◌, sym}
+use Rattle.std.proofs.lemmas.Iterator.{YieldsList-from_slice}
+use Rattle.std.proofs.lemmas.Iterator.Search.{all_from_yields_List}
+use Rattle.std.proofs.lemmas.List.Folds.{list_all-map}
+use Rattle.plan_verdict.specs.Sets as spec
+use Rattle.plan_rules.proofs.joins.each_is_nullable.Goals as goal
+
+pub returns : goal.returns
+returns c =
+    all_from_yields_List (spec.is_nullable_at c.args.place) _ _ c.all.result c.all.ensures.ran (YieldsList-from_slice c.args.others.now cc) (λ x b q k. search (rules, tests))
+    ∙ sym (list_all-map (λ other. other) (spec.is_nullable_at c.args.place) c.args.others.now)
