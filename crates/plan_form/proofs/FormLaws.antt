@@ -8,7 +8,8 @@ use Rattle.sub_types.specs.declared.value.Value.{Value}
 use Rattle.plan_leaves.specs.declared.types.RawType.{RawType}
 use Rattle.plan_raw.specs.declared.source.VirtualTable.{VirtualTable}
 use Rattle.plan_raw.specs.Read.{literal_rows, expression_rows}
-use Rattle.plan_form.specs.Form.{MAX_COLUMNS, MAX_NAMES, is_within, is_empty, is_required_i64, row_of, table_rows}
+use Rattle.plan_verdict.specs.Lists.{is_empty}
+use Rattle.plan_form.specs.Form.{MAX_COLUMNS, MAX_NAMES, is_within, is_required_i64, row_of, table_rows}
 use Rattle.plan_form.specs.Rows.{values_in, AreRows}
 use Rattle.sub_types.specs.OptionSteps.{all_of}
 use Rattle.plan_form.proofs.StepLaws.{and_parts, when_parts, when_true, is_some-all_of}

@@ -3,7 +3,6 @@
 use Rattle.std.specs.Prelude.{ℕ, ◌+◌, ℤ, pos, ◌/◌, List, [], ◌∷◌, Bool, true, false, Option, Some, None, ◌&&◌, not, ◌==◌, nat_le, map, length, is_none}
 use Rattle.std.specs.Fork.{slice_chunk}
 use Rattle.std.specs.List.{list_all, sum_by, range_with_len, join_with_byte}
-use Rattle.sub_types.specs.declared.kind.Kind.{Kind}
 use Rattle.sub_types.specs.declared.kind.Kind.TheVariants as kinds
 use Rattle.sub_types.specs.declared.kind.Ty.{Ty}
 use Rattle.sub_types.specs.declared.value.Value.{Value}
@@ -12,7 +11,6 @@ use Rattle.plan_raw.specs.declared.plan.PlanTree.{PlanTree}
 use Rattle.plan_leaves.specs.declared.literal.RawLiteral.{RawLiteral}
 use Rattle.plan_leaves.specs.declared.literal.RawLiteral.TheVariants as literals
 use Rattle.plan_leaves.specs.declared.types.RawType.{RawType}
-use Rattle.plan_leaves.specs.declared.types.RawType.TheVariants as types
 use Rattle.plan_leaves.specs.declared.schema.NamedStruct.{NamedStruct}
 use Rattle.plan_leaves.specs.declared.literal.LiteralRow.{LiteralRow}
 use Rattle.plan_raw.specs.declared.source.VirtualTable.{VirtualTable}
@@ -23,6 +21,8 @@ use Rattle.plan_leaves.specs.declared.common.RelCommon.TheVariants as commons
 use Rattle.plan_raw.specs.declared.rel.RawRel.{RawRel}
 use Rattle.plan_raw.specs.Read.{read_of, literal_rows, expression_rows}
 use Rattle.sub_types.specs.OptionSteps.{◌>>=◌, when, all_of}
+use Rattle.plan_verdict.specs.Lists.{is_empty, only}
+use Rattle.plan_verdict.specs.Types.{type_of}
 
 -- the most columns
 abbrev pub MAX_COLUMNS : ℕ
@@ -47,40 +47,6 @@ pub record Form : Type 0 where
   pub columns : List (List ℕ)
   pub types : List Ty
   pub source : Source
-
-abbrev pub is_empty : {A : Type 0} → List A → Bool
-is_empty [] = true
-is_empty _ = false
-
--- the one element of a list
-abbrev pub only : {A : Type 0} → List A → Option A
-only (x ∷ []) = Some x
-only _ = None
-
--- a type of this kind: 2 is required, every other number nullable
-abbrev pub type_as : Kind → ℕ → Ty
-type_as kind nullability = record { kind = kind; nullable = not (nullability == 2) }
-
--- a decimal of 1 to 38 digits, of which at most all stand behind the point
-abbrev pub decimal_of : ℤ → ℤ → Option Kind
-decimal_of (pos precision) (pos scale) = when (nat_le 1 precision && nat_le precision 38 && nat_le scale precision) (Some (kinds.Decimal precision scale))
-decimal_of _ _ = None
-
--- a type of the ten kinds
-abbrev pub type_of : RawType → Option Ty
-type_of (types.Bool nullability) = Some (type_as kinds.Bool nullability)
-type_of (types.I8 nullability) = Some (type_as kinds.I8 nullability)
-type_of (types.I16 nullability) = Some (type_as kinds.I16 nullability)
-type_of (types.I32 nullability) = Some (type_as kinds.I32 nullability)
-type_of (types.I64 nullability) = Some (type_as kinds.I64 nullability)
-type_of (types.String nullability) = Some (type_as kinds.Text nullability)
-type_of (types.Binary nullability) = Some (type_as kinds.Binary nullability)
-type_of (types.Timestamp nullability) = Some (type_as kinds.Timestamp nullability)
-type_of (types.Date nullability) = Some (type_as kinds.Date nullability)
-type_of (types.Decimal scale precision nullability) = do
-  kind ← decimal_of precision scale
-  Some (type_as kind nullability)
-type_of _ = None
 
 -- a required 64-bit whole number
 abbrev pub is_required_i64 : Ty → Bool

@@ -3,6 +3,7 @@ ghost use Rattle.std.specs.Prelude.{◌≡◌, ◌&&◌, is_some, IfOk, IfSome};
 ghost use Rattle.std.specs.List.{join_with_byte, list_all};
 ghost use Rattle.std.specs.Option.{option_map};
 ghost use Rattle.plan_raw.specs.Read.{expression_rows};
+ghost use Rattle.plan_verdict.specs.Lists.{is_empty};
 ghost use Rattle.plan_form.specs.Form as spec;
 ghost use Rattle.plan_form.specs.Seen.{source_seen, HasBatches};
 
@@ -58,7 +59,7 @@ fn holds_rows(types: &[Ty], table: &VirtualTable) -> bool
 
 // Whether it has no expressions, and required 64-bit whole numbers alone.
 fn is_plain(types: &[Ty], table: &VirtualTable) -> bool
-    ensures { result ≡ (spec.is_empty (expression_rows table.now) && list_all spec.is_required_i64 types.now) }
+    ensures { result ≡ (is_empty (expression_rows table.now) && list_all spec.is_required_i64 types.now) }
 {
     table.expressions.is_empty() && are_whole(types)
 }

@@ -1,7 +1,7 @@
 use Rattle.std.proofs.Common.{◌∙◌, ◌+◌, sym, ap, map, drop, arith}
 use Rattle.std.proofs.lemmas.List.Elements.{All-nil, All-push}
 use Rattle.sub_types.specs.Kind.{IsKind}
-use Rattle.plan_form.specs.Form as spec
+use Rattle.plan_verdict.specs.Types as spec
 use Rattle.sub_types.specs.OptionSteps.{all_of}
 use Rattle.plan_form.proofs.StepLaws.{after, after-nil, all_of-more, all_of-missing, all_of-end}
 use Rattle.plan_form.proofs.types.types_of.Goals as goal

@@ -1,7 +1,7 @@
 use Rattle.std.proofs.Common.{◌≡◌, map, drop}
 use Rattle.std.specs.List.{All}
 use Rattle.sub_types.specs.Kind.{IsKind}
-use Rattle.plan_form.specs.Form as spec
+use Rattle.plan_verdict.specs.Types as spec
 use Rattle.sub_types.specs.OptionSteps.{all_of}
 use Rattle.plan_form.proofs.StepLaws.{after}
 use Rattle.plan_form.proofs.types.types_of.Given as goal
