@@ -1,5 +1,6 @@
 // What a literal is worth (Substrait `Expression.Literal`).
-ghost use Rattle.std.specs.Prelude.{◌≡◌, ◌≤◌, ◌^◌, length, nat_le, nat_lt, unsigned_abs};
+ghost use Rattle.std.specs.Prelude.{◌≡◌, ◌≤◌, ◌^◌, ◌&&◌, length, nat_le, nat_lt, unsigned_abs};
+ghost use Rattle.std.specs.Str.{is_utf8};
 ghost use Rattle.sub_types.specs.Kind.{IsKind};
 ghost use Rattle.plan_verdict.specs.Checking.{Agrees};
 ghost use Rattle.plan_verdict.specs.Literals as spec;
@@ -27,30 +28,18 @@ pub fn literal_in(alloc: Global, relation: u32, raw: &RawLiteral) -> Result<(Val
         RawLiteral::I16 { value, nullable } => {
             int_in(relation, 32768, Kind::I16, *nullable, *value)
         }
-        RawLiteral::I32 { value, nullable } => {
-            Ok(constant(Kind::I32, *nullable, Value::Int(i64::from(*value))))
-        }
-        RawLiteral::I64 { value, nullable } => {
-            Ok(constant(Kind::I64, *nullable, Value::Int(*value)))
-        }
+        RawLiteral::I32 { value, nullable } => { Ok(int32_of(Kind::I32, *nullable, *value)) }
+        RawLiteral::I64 { value, nullable } => { Ok(int64_of(Kind::I64, *nullable, *value)) }
         RawLiteral::String { value, nullable } => {
-            bytes_in(
-                alloc,
-                relation,
-                Kind::Text,
-                *nullable,
-                value.text().as_bytes(),
-            )
+            text_in(alloc, relation, *nullable, value.text())
         }
         RawLiteral::Binary { value, nullable } => {
             bytes_in(alloc, relation, Kind::Binary, *nullable, value.bytes())
         }
         RawLiteral::Timestamp { value, nullable } => {
-            Ok(constant(Kind::Timestamp, *nullable, Value::Int(*value)))
+            Ok(int64_of(Kind::Timestamp, *nullable, *value))
         }
-        RawLiteral::Date { value, nullable } => {
-            Ok(constant(Kind::Date, *nullable, Value::Int(i64::from(*value))))
-        }
+        RawLiteral::Date { value, nullable } => { Ok(int32_of(Kind::Date, *nullable, *value)) }
         RawLiteral::Decimal {
             value,
             precision,
@@ -97,6 +86,32 @@ fn is_within(bound: u16, value: i32) -> bool
 {
     let bound = i32::from(bound);
     -bound <= value && value < bound
+}
+
+/// A whole number of 32 bits, which its kind always holds.
+fn int32_of(kind: Kind, nullable: bool, value: i32) -> (Value, Ty)
+    ensures { spec.constant_where (spec.is_within (2 ^ 31) value) kind nullable (Value.Int value) ≡ Ok result }
+{
+    constant(kind, nullable, Value::Int(i64::from(value)))
+}
+
+/// A whole number of 64 bits, which its kind always holds.
+fn int64_of(kind: Kind, nullable: bool, value: i64) -> (Value, Ty)
+    ensures { spec.constant_where (spec.is_within (2 ^ 63) value) kind nullable (Value.Int value) ≡ Ok result }
+{
+    constant(kind, nullable, Value::Int(value))
+}
+
+/// A text value.
+fn text_in(
+    alloc: Global,
+    relation: u32,
+    nullable: bool,
+    value: &str,
+) -> Result<(Value, Ty), CheckError>
+    ensures { Agrees result relation (spec.constant_where (is_utf8 value.now && nat_le (length value.now) MAX_TEXT) Kind.Text nullable (Value.Bytes value.now)) }
+{
+    bytes_in(alloc, relation, Kind::Text, nullable, value.as_bytes())
 }
 
 /// A text or binary value.

@@ -1,7 +1,6 @@
 -- How relations are numbered in pre-order: a relation, then its inputs from left to right, then the subqueries of its own
 -- expressions in the order in which these are checked.
 use Rattle.std.specs.Prelude.{ℕ, ◌+◌, List, [], ◌∷◌, ◌++◌, Option, sum, map, unwrap_or}
-use Rattle.std.specs.List.{concat}
 use Rattle.std.specs.Option.{option_to_list}
 use Rattle.plan_raw.specs.declared.aggregate.AggregateFunction.{AggregateFunction, AggregateFunction-F}
 use Rattle.plan_raw.specs.declared.aggregate.Grouping.{Grouping, Grouping-F}
@@ -18,8 +17,7 @@ use Rattle.plan_raw.specs.declared.source.ExprRow.{ExprRow, ExprRow-F}
 use Rattle.plan_raw.specs.declared.source.RawSource.{RawSource, RawSource-F}
 use Rattle.plan_raw.specs.declared.source.VirtualTable.{VirtualTable-F}
 use Rattle.plan_tree.specs.Fold.{Level, Opened, With, Steps, fold_argument, fold_expression, fold_count, fold_offset, fold_relation, fold_source, fold_function, fold_grouping, fold_measure, fold_sort, fold_clause, fold_value, fold_row}
-use Rattle.plan_typed.specs.declared.rel.Rel.{Rel, fold-Rel}
-use Rattle.plan_typed.specs.declared.rel.Op.TheOpen.{Op-F}
+pub use Rattle.plan_typed.specs.Numbers.{op_numbers, numbers_of}
 
 -- one level of a message, with the number of relations in each message inside it in that message's place
 abbrev pub Counted : Level → Type 0
@@ -194,20 +192,3 @@ input_numbers number rel = numbers_from (number + 1) (inputs_of rel)
 -- the number of the first subquery of a relation with this number
 abbrev pub subquery_number : ℕ → RawRel → ℕ
 subquery_number number rel = number + 1 + sum (map relation_count (inputs_of rel))
-
--- one level of a checked relation, with the numbers in each of its inputs in the input's place
-abbrev pub op_numbers : Op-F (List ℕ) (List ℕ) → List ℕ
-op_numbers (Op-F.Read source names types filter mask) = []
-op_numbers (Op-F.Filter input condition) = input
-op_numbers (Op-F.Project input exprs) = input
-op_numbers (Op-F.Fetch input offset count) = input
-op_numbers (Op-F.Sort input keys) = input
-op_numbers (Op-F.Aggregate input groups measures) = input
-op_numbers (Op-F.GroupSets input groups sets measures) = input
-op_numbers (Op-F.Join left right kind on post) = left ++ right
-op_numbers (Op-F.Cross left right) = left ++ right
-op_numbers (Op-F.Set inputs op) = concat inputs
-
--- the numbers of a checked relation and of those below it
-abbrev pub numbers_of : Rel → List ℕ
-numbers_of = fold-Rel (List ℕ) (List ℕ) op_numbers (λ rel. rel.number ∷ rel.op)

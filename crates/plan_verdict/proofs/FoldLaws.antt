@@ -2,7 +2,6 @@
 use Rattle.std.proofs.Common.{◌≡◌, ℕ, Bool, Option, Some, None, List, map, rules}
 use Rattle.std.specs.Option.{option_map}
 use Rattle.plan_leaves.specs.declared.common.RelCommon.{RelCommon}
-use Rattle.plan_leaves.specs.declared.literal.LiteralRow.{LiteralRow}
 use Rattle.plan_leaves.specs.declared.literal.RawLiteral.{RawLiteral}
 use Rattle.plan_leaves.specs.declared.files.LocalFiles.{LocalFiles}
 use Rattle.plan_leaves.specs.declared.mask.MaskExpression.{MaskExpression}
@@ -31,7 +30,7 @@ use Rattle.plan_raw.specs.declared.source.ExprRow.{ExprRow, out-ExprRow}
 use Rattle.plan_raw.specs.declared.source.RawSource.{RawSource, RawSource-F}
 use Rattle.plan_raw.specs.declared.source.RawSource.TheVariants as s
 use Rattle.plan_raw.specs.declared.source.VirtualTable.{VirtualTable, out-VirtualTable}
-use Rattle.plan_verdict.specs.Aggregates.{measured, measure_in, is_supported_form}
+use Rattle.plan_verdict.specs.Aggregates.{measured, measure_in}
 use Rattle.plan_verdict.specs.Amounts.{amount_of}
 use Rattle.plan_verdict.specs.Exprs.{Terms, expression, if_clause}
 use Rattle.plan_verdict.specs.Reads.{rows_in, source_in}
@@ -206,3 +205,48 @@ checked_measure-out terms one = search (rules, the_lemmas)
 pub checked_function-check : (terms : Terms) (one : AggregateFunction) → (checked_function terms one).check ≡ measured terms (out-AggregateFunction one).function_reference (out-AggregateFunction one).output_type (map (checked_argument terms) (out-AggregateFunction one).arguments) (out-AggregateFunction one).options
 unfolding checked_function checked_argument
 checked_function-check terms one = search (rules, the_lemmas)
+
+-- messages without others inside them
+pub checked_expr-Missing : (terms : Terms) → checked_expr terms e.Missing ≡ expression terms RawExpr-F.«RawExpr::Missing»
+unfolding checked_expr
+checked_expr-Missing terms = search (rules, the_lemmas)
+
+pub checked_expr-Unknown : (terms : Terms) (number : ℕ) → checked_expr terms (e.Unknown number) ≡ expression terms (RawExpr-F.«RawExpr::Unknown» number)
+unfolding checked_expr
+checked_expr-Unknown terms number = search (rules, the_lemmas)
+
+pub checked_expr-SubqueryMissing : (terms : Terms) → checked_expr terms e.SubqueryMissing ≡ expression terms RawExpr-F.SubqueryMissing
+unfolding checked_expr
+checked_expr-SubqueryMissing terms = search (rules, the_lemmas)
+
+pub checked_expr-SubqueryUnknown : (terms : Terms) (number : ℕ) → checked_expr terms (e.SubqueryUnknown number) ≡ expression terms (RawExpr-F.SubqueryUnknown number)
+unfolding checked_expr
+checked_expr-SubqueryUnknown terms number = search (rules, the_lemmas)
+
+pub checked_expr-SetComparison : (terms : Terms) → checked_expr terms e.SetComparison ≡ expression terms RawExpr-F.SetComparison
+unfolding checked_expr
+checked_expr-SetComparison terms = search (rules, the_lemmas)
+
+pub checked_rel-Missing : (terms : Terms) → checked_rel terms r.Missing ≡ member RawRel-F.«RawRel::Missing»
+unfolding checked_rel
+checked_rel-Missing terms = search (rules, the_lemmas)
+
+pub checked_rel-Unknown : (terms : Terms) (number : ℕ) → checked_rel terms (r.Unknown number) ≡ member (RawRel-F.«RawRel::Unknown» number)
+unfolding checked_rel
+checked_rel-Unknown terms number = search (rules, the_lemmas)
+
+pub checked_argument-Missing : (terms : Terms) → checked_argument terms a.Missing ≡ None
+unfolding checked_argument
+checked_argument-Missing terms = search (rules, the_lemmas)
+
+pub checked_argument-Enum : (terms : Terms) (name : List ℕ) → checked_argument terms (a.Enum name) ≡ None
+unfolding checked_argument
+checked_argument-Enum terms name = search (rules, the_lemmas)
+
+pub checked_argument-TypeArgument : (terms : Terms) (type : RawType) → checked_argument terms (a.TypeArgument type) ≡ None
+unfolding checked_argument
+checked_argument-TypeArgument terms type = search (rules, the_lemmas)
+
+pub checked_source-Missing : (terms : Terms) → checked_source terms s.Missing ≡ source_in RawSource-F.«RawSource::Missing»
+unfolding checked_source
+checked_source-Missing terms = search (rules, the_lemmas)

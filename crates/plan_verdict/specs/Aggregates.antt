@@ -1,7 +1,6 @@
 -- The checks of aggregates (Substrait `AggregateRel`): groupings and measures.
-use Rattle.std.specs.Prelude.{ℕ, List, [], ◌∷◌, ◌++◌, Bool, true, false, Option, Some, None, Result, Ok, Err, ◌&&◌, ◌||◌, not, ◌==◌, map, length, nat_le, nat_lt, is_none, if◌then◌else◌, position}
+use Rattle.std.specs.Prelude.{ℕ, List, [], ◌∷◌, ◌++◌, Bool, true, Option, Some, None, Result, Ok, Err, ◌&&◌, ◌||◌, not, ◌==◌, map, length, nat_le, nat_lt, is_none, if◌then◌else◌, position}
 use Rattle.std.specs.List.{list_all, list_any, range_with_len, enumerate_from}
-use Rattle.sub_types.specs.declared.kind.Kind.TheVariants as kinds
 use Rattle.sub_types.specs.declared.kind.Ty.{Ty}
 use Rattle.plan_leaves.specs.declared.common.RelCommon.{RelCommon}
 use Rattle.plan_leaves.specs.declared.options.FunctionOption.{FunctionOption}
@@ -16,6 +15,7 @@ use Rattle.plan_typed.specs.declared.rel.Rel.{Rel}
 use Rattle.plan_typed.specs.declared.rel.SetMeasure.{SetMeasure}
 use Rattle.plan_typed.specs.declared.rel.TypedMeasure.{TypedMeasure}
 use Rattle.plan_typed.specs.Types.{ty_of, columns_of}
+pub use Rattle.plan_denote.specs.Columns.{MAX_GROUPINGS, has_place, group_type, number_column}
 use Rattle.plan_verdict.specs.Same.{same_expr}
 use Rattle.func_table.specs.declared.row.Class.TheVariants as classes
 use Rattle.plan_verdict.specs.declared.groups.Group.{Group}
@@ -29,10 +29,6 @@ use Rattle.plan_verdict.specs.Meaning.{Scope, Expression, Aggregation, Sets, Che
 use Rattle.plan_verdict.specs.Relation.{input, finished}
 use Rattle.plan_verdict.specs.Rels.{over, maybe_condition}
 use Rattle.plan_verdict.specs.Lists.{is_empty}
-
--- the most groupings
-abbrev pub MAX_GROUPINGS : ℕ
-MAX_GROUPINGS = 64
 
 -- the only argument, if there is one
 abbrev pub first_of : List Expr → Option Expr
@@ -153,18 +149,6 @@ written_out scope groupings = do
 abbrev pub groups_in : Scope → List Expression → List Sets → Checking Groups
 groups_in scope [] groupings = written_out scope groupings
 groups_in scope expressions groupings = referred scope expressions groupings
-
--- the set has the place
-abbrev pub has_place : ℕ → List ℕ → Bool
-has_place place set = list_any (λ one. one == place) set
-
--- the type of a group's column, which is null for a set without it
-abbrev pub group_type : List (List ℕ) → ℕ × Expr → Ty
-group_type sets (place, expr) = record { kind = (ty_of expr).kind; nullable = (ty_of expr).nullable || not (list_all (has_place place) sets) }
-
--- the column with the number of the set, where there are several
-abbrev pub number_column : List (List ℕ) → List Ty
-number_column sets = if nat_le (length sets) 1 then [] else record { kind = kinds.I32; nullable = false } ∷ []
 
 -- the columns of an aggregate: the groups, the measures, and the number of the set
 abbrev pub aggregate_columns : Groups → List SetMeasure → List Ty

@@ -1,12 +1,11 @@
 -- The functions that calls name (Substrait's simple extensions and its function files): the row of the table, the mode of
 -- overflow, and the type of the result.
-use Rattle.std.specs.Prelude.{ℕ, ◌+◌, List, [], ◌∷◌, Bool, true, false, Option, Some, None, Result, Ok, Err, ◌||◌, not, ◌==◌, codes, map, max, if◌then◌else◌}
-use Rattle.std.specs.List.{find, list_any, list_all, before_first, after_last}
+use Rattle.std.specs.Prelude.{ℕ, List, [], ◌∷◌, Bool, true, false, Option, Some, None, Result, Ok, Err, ◌||◌, not, ◌==◌, codes, map, if◌then◌else◌}
+use Rattle.std.specs.List.{find, list_any, before_first, after_last}
 use Rattle.std.specs.Option.{ok_or, option_map}
 use Rattle.std.specs.Str.{bytes_eq}
 use Rattle.sub_types.specs.ResultSteps.{◌>>=◌}
 use Rattle.sub_types.specs.declared.kind.Kind.{Kind}
-use Rattle.sub_types.specs.declared.kind.Kind.TheVariants as kinds
 use Rattle.sub_types.specs.declared.kind.Ty.{Ty}
 use Rattle.plan_leaves.specs.declared.extensions.FunDecl.{FunDecl}
 use Rattle.plan_leaves.specs.declared.extensions.UriDecl.{UriDecl}
@@ -17,12 +16,11 @@ use Rattle.plan_typed.specs.declared.expr.Func.TheVariants as funcs
 use Rattle.plan_typed.specs.declared.expr.Overflow.{Overflow}
 use Rattle.plan_typed.specs.declared.expr.Overflow.TheVariants as modes
 use Rattle.func_table.specs.declared.row.Class.{Class}
-use Rattle.func_table.specs.declared.row.ResultRule.{ResultRule}
-use Rattle.func_table.specs.declared.row.ResultRule.TheVariants as results
 use Rattle.func_table.specs.Entry.{Signature}
 use Rattle.func_table.specs.Find.{row_for, is_known}
-use Rattle.func_table.specs.Kinds.{key_of_kinds, is_equal, scale_of}
+use Rattle.func_table.specs.Kinds.{key_of_kinds}
 use Rattle.func_table.specs.Options.{honoured}
+pub use Rattle.plan_denote.specs.Results.{scale_for, is_of_scale, first_kind, result_of, is_result, is_nullable_call}
 use Rattle.plan_verdict.specs.declared.call.Call.{Call}
 use Rattle.plan_verdict.specs.declared.rule.Rule.{Rule}
 use Rattle.plan_verdict.specs.declared.rule.Rule.TheVariants as rules
@@ -131,57 +129,12 @@ mode_from mode row (option ∷ options) = do
 abbrev pub mode_in : Signature → List FunctionOption → Result Overflow Rule
 mode_in row options = mode_from modes.Error row options
 
--- the scale that a declared decimal must have: the sum of the arguments' for a product, and else the largest
-abbrev pub scale_for : Func → List Kind → ℕ
-scale_for func [] = 0
-scale_for func (kind ∷ []) = scale_of kind
-scale_for funcs.Multiply (first ∷ second ∷ _) = scale_of first + scale_of second
-scale_for func (first ∷ second ∷ _) = max (scale_of first) (scale_of second)
-
--- a decimal of this scale
-abbrev pub is_of_scale : ℕ → Kind → Bool
-is_of_scale scale (kinds.Decimal precision its_scale) = its_scale == scale
-is_of_scale scale _ = false
-
--- the kind of the first argument
-abbrev pub first_kind : List Kind → Kind
-first_kind (kind ∷ _) = kind
-first_kind [] = kinds.Bool
-
--- the result's kind where the row alone gives it
-abbrev pub result_of : ResultRule → List Kind → Option Kind
-result_of results.Same given = Some (first_kind given)
-result_of results.Bool given = Some kinds.Bool
-result_of results.I64 given = Some kinds.I64
-result_of results.DeclaredDecimal given = None
-
--- a declared kind is the row's result
-abbrev pub is_result : Signature → List Kind → Kind → Bool
-is_result row given declared = elim (result_of row.result given) [
-  | Some kind ↦ is_equal kind declared
-  | None ↦ is_of_scale (scale_for row.func given) declared
-]
-
 -- the kind of the result: the row's, which a declared type must agree with, or the declared decimal
 abbrev pub result_in : Signature → List Kind → Option RawType → Result Kind Rule
 result_in row given None = ok_or (result_of row.result given) rules.MissingField
 result_in row given (Some raw) = do
   ty ← type_in raw
   if is_result row given ty.kind then Ok ty.kind else Err rules.BadArguments
-
--- whether a call may give null where its arguments are of these types
-abbrev pub is_nullable_call : Func → List Ty → Bool
-is_nullable_call funcs.IsNull types = false
-is_nullable_call funcs.IsNotNull types = false
-is_nullable_call funcs.IsNotDistinctFrom types = false
-is_nullable_call funcs.Count types = false
-is_nullable_call funcs.Coalesce types = list_all (λ ty. ty.nullable) types
-is_nullable_call funcs.Nullif types = true
-is_nullable_call funcs.Sum types = true
-is_nullable_call funcs.Avg types = true
-is_nullable_call funcs.Min types = true
-is_nullable_call funcs.Max types = true
-is_nullable_call _ types = list_any (λ ty. ty.nullable) types
 
 -- the call of a named function with arguments of these types: its row, then its options, then its result
 abbrev pub call_in : Named → Class → List Ty → Option RawType → List FunctionOption → Result Call Rule

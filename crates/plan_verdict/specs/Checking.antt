@@ -82,22 +82,19 @@ in_order (first ∷ rest) = do
   values ← in_order rest
   accept (value ∷ values)
 
--- what a call answers, and how far it comes, is what the check gives, unless no memory was found
-abbrev pub Gives : {A : Type 0} → Result A CheckError → Progress → Result (A × Progress) Refusal → Type 0
-Gives (Ok value) progress checked = checked ≡ Ok (value, progress)
-Gives (Err (errors.Refused relation rule)) progress checked = checked ≡ Err (record { relation = relation; rule = rule })
-Gives (Err errors.NoMemory) progress checked = Unit {0}
-
--- the same of a part that holds no relation and no expression
+-- what a call answers of a part that holds no relation and no expression
 abbrev pub Agrees : {A : Type 0} → Result A CheckError → ℕ → Result A Rule → Type 0
 Agrees (Ok value) relation found = found ≡ Ok value
 Agrees (Err (errors.Refused refused rule)) relation found = (refused ≡ relation) × (found ≡ Err rule)
 Agrees (Err errors.NoMemory) relation found = Unit {0}
 
--- the same with one more value
-abbrev pub with_value : {A B E : Type 0} → A → Result B E → Result (A × B) E
-with_value first (Ok second) = Ok (first, second)
-with_value first (Err error) = Err error
+-- what a call answers, with how far it comes, is what the check gives, unless no memory was found
+abbrev pub Comes : {A : Type 0} → Result (A × Progress) CheckError → Result (A × Progress) Refusal → Type 0
+Comes (Ok found) checked = checked ≡ Ok found
+Comes (Err (errors.Refused relation rule)) checked = checked ≡ Err (record { relation = relation; rule = rule })
+Comes (Err errors.NoMemory) checked = Unit {0}
 
-abbrev pub GivesWith : {A B : Type 0} → A → Result B CheckError → Progress → Result ((A × B) × Progress) Refusal → Type 0
-GivesWith first result progress checked = Gives (with_value first result) progress checked
+-- no value beside how far it comes
+abbrev pub with_unit : {E : Type 0} → Result Progress E → Result (Unit {0} × Progress) E
+with_unit (Ok progress) = Ok (tt, progress)
+with_unit (Err error) = Err error

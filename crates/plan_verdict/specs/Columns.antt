@@ -1,7 +1,7 @@
 -- The columns of relations: a read's schema and projection, and what a relation emits (Substrait `NamedStruct`, `MaskExpression`
 -- and `RelCommon`).
-use Rattle.std.specs.Prelude.{ℕ, ℤ, pos, List, [], Option, Some, None, Result, Ok, Err, ◌==◌, map, length, nat_le, nat_lt, slice_get, if◌then◌else◌}
-use Rattle.std.specs.List.{range_with_len, filter_map}
+use Rattle.std.specs.Prelude.{ℕ, ℤ, pos, List, [], Option, Some, None, Result, Ok, Err, ◌==◌, map, length, nat_le, nat_lt, if◌then◌else◌}
+use Rattle.std.specs.List.{range_with_len}
 use Rattle.std.specs.Option.{ok_or, option_map_or}
 use Rattle.sub_types.specs.ResultSteps.{◌>>=◌, collect}
 use Rattle.sub_types.specs.declared.kind.Ty.{Ty}
@@ -13,13 +13,10 @@ use Rattle.plan_leaves.specs.declared.schema.NamedStruct.{NamedStruct}
 use Rattle.plan_leaves.specs.declared.types.StructType.{StructType}
 use Rattle.plan_typed.specs.declared.rel.Op.{Op}
 use Rattle.plan_typed.specs.declared.rel.Rel.{Rel, roll-Rel}
+pub use Rattle.plan_denote.specs.Columns.{MAX_COLUMNS, columns_at}
 use Rattle.plan_verdict.specs.declared.rule.Rule.{Rule}
 use Rattle.plan_verdict.specs.declared.rule.Rule.TheVariants as rules
 use Rattle.plan_verdict.specs.Types.{type_in}
-
--- the most columns of a relation
-abbrev pub MAX_COLUMNS : ℕ
-MAX_COLUMNS = 1024
 
 -- the types of a struct with as many names
 abbrev pub types_in : List (List ℕ) → StructType → Result (List Ty) Rule
@@ -61,10 +58,6 @@ places_in count mapping = do
 abbrev pub emit_in : ℕ → Option RelCommon → Result (List ℕ) Rule
 emit_in count (Some (commons.Emit mapping)) = places_in count mapping
 emit_in count _ = Ok (range_with_len 0 count)
-
--- the columns at these places
-abbrev pub columns_at : List Ty → List ℕ → List Ty
-columns_at columns places = filter_map (slice_get columns) places
 
 -- what is emitted of these columns, which aren't too many
 abbrev pub emitted : Option RelCommon → List Ty → Result (List ℕ) Rule

@@ -1,6 +1,6 @@
 -- The checks of expressions (Substrait `Expression`).
 use Rattle.std.specs.Prelude.{ℕ, List, [], ◌∷◌, ◌++◌, Bool, true, false, Option, Some, None, ◌&&◌, ◌||◌, not, ◌==◌, map, length, is_some, nat_le}
-use Rattle.std.specs.List.{list_all, list_any, zip}
+use Rattle.std.specs.List.{list_all, zip}
 use Rattle.std.specs.Option.{ok_or}
 use Rattle.sub_types.specs.declared.kind.Kind.{Kind}
 use Rattle.sub_types.specs.declared.kind.Kind.TheVariants as kinds
@@ -21,6 +21,7 @@ use Rattle.plan_typed.specs.declared.sub.SubKind.TheVariants as sub_kinds
 use Rattle.plan_typed.specs.Types.{ty_of, columns_of}
 use Rattle.func_table.specs.declared.row.Class.TheVariants.{Scalar}
 use Rattle.func_table.specs.Kinds.{is_equal}
+pub use Rattle.plan_denote.specs.Types.{kind_of, type_with, some_nullable}
 use Rattle.plan_verdict.specs.declared.rule.Rule.TheVariants as rules
 use Rattle.plan_verdict.specs.Calls.{Declared, named_in, call_in}
 use Rattle.plan_verdict.specs.Casts.{can_cast}
@@ -36,13 +37,6 @@ use Rattle.plan_verdict.specs.Lists.{is_empty, only}
 pub record Terms : Type 0 where
   pub declared : Declared
   pub with_subqueries : Bool
-
--- the kind of a checked expression
-abbrev pub kind_of : Expr → Kind
-kind_of expr = (ty_of expr).kind
-
-abbrev pub type_with : Kind → Bool → Ty
-type_with kind nullable = record { kind = kind; nullable = nullable }
 
 -- an expression that must be there
 abbrev pub required : Scope → Option Expression → Checking Expr
@@ -96,10 +90,6 @@ otherwise scope kind None = do
 abbrev pub are_alike : List Expr → Bool
 are_alike [] = true
 are_alike (first ∷ rest) = list_all (λ expr. is_equal (kind_of expr) (kind_of first)) rest
-
--- some may be null
-abbrev pub some_nullable : List Expr → Bool
-some_nullable exprs = list_any (λ expr. (ty_of expr).nullable) exprs
 
 -- the kind of the first
 abbrev pub first_kind : List Expr → Kind

@@ -2,6 +2,7 @@
 use Rattle.std.specs.Prelude.{ℕ, ◌^◌, ℤ, pos, negsuc, List, Bool, true, false, Option, Result, Ok, Err, map, ◌&&◌, ◌==◌, length, nat_le, nat_lt, unsigned_abs, if◌then◌else◌}
 use Rattle.std.specs.Int.{w128, cast_signed}
 use Rattle.std.specs.Option.{ok_or}
+use Rattle.std.specs.Str.{is_utf8}
 use Rattle.byteorder.specs.Endian.{little_number}
 use Rattle.sub_types.specs.ResultSteps.{◌>>=◌, collect}
 use Rattle.sub_types.specs.Value.{MAX_TEXT}
@@ -41,17 +42,18 @@ abbrev pub is_decimal : Kind → List ℕ → Bool
 is_decimal (kinds.Decimal precision scale) bytes = length bytes == 16 && nat_lt (unsigned_abs (decimal_number bytes)) (10 ^ precision)
 is_decimal _ bytes = false
 
--- the value and type of a literal; null is nullable
+-- the value and type of a literal; null is nullable. A tree in memory has no number beyond its bits and no text that isn't UTF-8,
+-- so only the tests of I8, I16, of lengths and of decimals can fail there
 abbrev pub literal_in : RawLiteral → Result (Value × Ty) Rule
 literal_in (literals.Boolean value nullable) = Ok (constant kinds.Bool nullable (values.Bool value))
 literal_in (literals.I8 value nullable) = constant_where (is_within 128 value) kinds.I8 nullable (values.Int value)
 literal_in (literals.I16 value nullable) = constant_where (is_within 32768 value) kinds.I16 nullable (values.Int value)
-literal_in (literals.I32 value nullable) = Ok (constant kinds.I32 nullable (values.Int value))
-literal_in (literals.I64 value nullable) = Ok (constant kinds.I64 nullable (values.Int value))
-literal_in (literals.String value nullable) = constant_where (nat_le (length value) MAX_TEXT) kinds.Text nullable (values.Bytes value)
+literal_in (literals.I32 value nullable) = constant_where (is_within (2 ^ 31) value) kinds.I32 nullable (values.Int value)
+literal_in (literals.I64 value nullable) = constant_where (is_within (2 ^ 63) value) kinds.I64 nullable (values.Int value)
+literal_in (literals.String value nullable) = constant_where (is_utf8 value && nat_le (length value) MAX_TEXT) kinds.Text nullable (values.Bytes value)
 literal_in (literals.Binary value nullable) = constant_where (nat_le (length value) MAX_TEXT) kinds.Binary nullable (values.Bytes value)
-literal_in (literals.Timestamp value nullable) = Ok (constant kinds.Timestamp nullable (values.Int value))
-literal_in (literals.Date value nullable) = Ok (constant kinds.Date nullable (values.Int value))
+literal_in (literals.Timestamp value nullable) = constant_where (is_within (2 ^ 63) value) kinds.Timestamp nullable (values.Int value)
+literal_in (literals.Date value nullable) = constant_where (is_within (2 ^ 31) value) kinds.Date nullable (values.Int value)
 literal_in (literals.Decimal value precision scale nullable) = do
   kind ← ok_or (decimal_of precision scale) rules.UnsupportedType
   constant_where (is_decimal kind value) kind nullable (values.Dec (decimal_number value))

@@ -35,11 +35,15 @@ of_kind scope ty field = do
   must_be scope ty.kind expr
   accept expr
 
--- a row: as many fields as columns, each of its column's kind
+-- the fields of a row, each of its column's kind
+abbrev pub fields_in : ℕ → List Ty → List (Checking Expr) → Checking (List Expr)
+fields_in number types fields = in_order (map (λ (field : Checking Expr × Ty). of_kind (no_columns number) field.1 field.0) (zip fields types))
+
+-- a row: as many fields as columns
 abbrev pub row_in : ℕ → List Ty → List (Checking Expr) → Checking (List Expr)
 row_in number types fields = do
   must number (length fields == length types) rules.TypeMismatch
-  in_order (map (λ (field : Checking Expr × Ty). of_kind (no_columns number) field.1 field.0) (zip fields types))
+  fields_in number types fields
 
 -- a literal in a row, which is numbered as any expression
 abbrev pub literal_field : ℕ → RawLiteral → Checking Expr

@@ -16,6 +16,7 @@ use Rattle.plan_typed.specs.declared.rel.Rel.{Rel}
 use Rattle.plan_typed.specs.declared.rel.SortKey.{SortKey}
 use Rattle.plan_typed.specs.declared.rel.Source.{Source}
 use Rattle.plan_typed.specs.Types.{ty_of, columns_of}
+pub use Rattle.plan_denote.specs.Columns.{nullable, join_columns}
 use Rattle.plan_verdict.specs.declared.rule.Rule.TheVariants as rules
 use Rattle.plan_verdict.specs.Checking.{Checking, ◌>>=◌, accept, part, in_order}
 use Rattle.plan_verdict.specs.Exprs.{condition, each_in, required}
@@ -111,19 +112,6 @@ join_kind type =
     else if type == 5 then Some joins.LeftSemi
     else if type == 6 then Some joins.LeftAnti
     else None
-
--- the same columns, which may be null
-abbrev pub nullable : List Ty → List Ty
-nullable columns = map (λ (column : Ty). record column { nullable = true }) columns
-
--- the columns of a join: an outer join may give nulls on the side that has no match
-abbrev pub join_columns : JoinKind → List Ty → List Ty → List Ty
-join_columns joins.Inner left right = left ++ right
-join_columns joins.Outer left right = nullable left ++ nullable right
-join_columns joins.Left left right = left ++ nullable right
-join_columns joins.Right left right = nullable left ++ right
-join_columns joins.LeftSemi left right = left
-join_columns joins.LeftAnti left right = left
 
 -- the conditions of a join of these inputs: the one over the left columns and then the right ones, the later one over what the
 -- join gives

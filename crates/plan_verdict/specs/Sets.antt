@@ -1,8 +1,7 @@
 -- Set operations (Substrait `SetRel`).
-use Rattle.std.specs.Prelude.{ℕ, List, ◌∷◌, Bool, Option, Some, None, Result, Ok, Err, ◌&&◌, ◌||◌, ◌==◌, map, slice_get, if◌then◌else◌, false}
-use Rattle.std.specs.List.{list_all, list_any, enumerate_from}
-use Rattle.std.specs.Cmp.Lexicographic.{pointwise}
-use Rattle.std.specs.Option.{ok_or, option_map_or}
+use Rattle.std.specs.Prelude.{ℕ, List, ◌∷◌, Option, Some, None, Result, Ok, Err, ◌==◌, map, if◌then◌else◌}
+use Rattle.std.specs.List.{list_all}
+use Rattle.std.specs.Option.{ok_or}
 use Rattle.sub_types.specs.ResultSteps.{◌>>=◌}
 use Rattle.sub_types.specs.declared.kind.Ty.{Ty}
 use Rattle.plan_leaves.specs.declared.common.RelCommon.{RelCommon}
@@ -11,7 +10,7 @@ use Rattle.plan_typed.specs.declared.rel.Rel.{Rel}
 use Rattle.plan_typed.specs.declared.rel.SetOp.{SetOp}
 use Rattle.plan_typed.specs.declared.rel.SetOp.TheVariants as sets
 use Rattle.plan_typed.specs.Types.{columns_of}
-use Rattle.func_table.specs.Kinds.{is_equal}
+pub use Rattle.plan_denote.specs.Columns.{is_nullable_in, is_nullable_at, are_of_kinds, set_columns}
 use Rattle.plan_verdict.specs.declared.rule.Rule.{Rule}
 use Rattle.plan_verdict.specs.declared.rule.Rule.TheVariants as rules
 use Rattle.plan_verdict.specs.Columns.{finished_in}
@@ -27,29 +26,6 @@ set_op code =
     else if code == 5 then Some sets.UnionDistinct
     else if code == 6 then Some sets.UnionAll
     else None
-
--- whether a column may be null, by whether it may in the first input and in each other
-abbrev pub is_nullable_in : SetOp → Bool → List Bool → Bool
-is_nullable_in sets.MinusPrimary first others = first
-is_nullable_in sets.MinusPrimaryAll first others = first
-is_nullable_in sets.IntersectionPrimary first others = first && list_any (λ other. other) others
-is_nullable_in sets.IntersectionMultiset first others = first && list_all (λ other. other) others
-is_nullable_in sets.IntersectionMultisetAll first others = first && list_all (λ other. other) others
-is_nullable_in sets.UnionDistinct first others = first || list_any (λ other. other) others
-is_nullable_in sets.UnionAll first others = first || list_any (λ other. other) others
-
--- the column at a place, which each input has
-abbrev pub is_nullable_at : ℕ → List Ty → Bool
-is_nullable_at place columns = option_map_or (λ column. column.nullable) (slice_get columns place) false
-
--- as many columns, of the same kinds in order
-abbrev pub are_of_kinds : List Ty → List Ty → Bool
-are_of_kinds first other = pointwise (λ a b. is_equal a.kind b.kind) first other
-
--- the columns of a set operation
-abbrev pub set_columns : SetOp → List Ty → List (List Ty) → List Ty
-set_columns op first others =
-    map (λ (numbered : ℕ × Ty). record numbered.1 { nullable = is_nullable_in op numbered.1.nullable (map (is_nullable_at numbered.0) others) }) (enumerate_from 0 first)
 
 -- the first input's columns and those of each other, where there are two inputs or more
 abbrev pub first_and_others : List (List Ty) → Option (List Ty × List (List Ty))

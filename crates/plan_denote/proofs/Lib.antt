@@ -1,0 +1,4 @@
+pub mod Made
+pub mod MadeRel
+pub mod ValidColumns
+pub mod ValidKinds
