@@ -1,0 +1,5 @@
+pub mod PieceLaws
+pub mod NumberLaws
+pub mod KeyLevels
+pub mod KeyLaws
+pub mod PlaceLaws
