@@ -1,0 +1,5 @@
+pub mod ArmLaws
+pub mod CheckedLaws
+pub mod LevelLaws
+pub mod OrderLaws
+pub mod StepLaws
