@@ -15,9 +15,9 @@ use Rattle.plan_typed.specs.Types.{ty_of}
 use Rattle.func_table.specs.declared.row.Class.TheVariants.{Aggregate}
 use Rattle.func_table.specs.Entry.{Entry, Arguments, Each, AnyNumber, OneOrMore, is_class, takes_kind, takes_kinds}
 use Rattle.func_table.specs.Table.{table}
-use Rattle.plan_denote.specs.ExprTyped.{IsCall, IsTypedOver}
-use Rattle.plan_denote.specs.WellTyped.{MayBe, IsConditionOver, IsMeasureOver, IsSetMeasureOver}
-use Rattle.plan_denote.proofs.ValidKinds.{AreKinds}
+use Rattle.well_typed.specs.ExprTyped.{IsCall, IsTypedOver}
+use Rattle.well_typed.specs.WellTyped.{MayBe, IsConditionOver, IsMeasureOver, IsSetMeasureOver}
+use Rattle.well_typed.proofs.ValidKinds.{AreKinds}
 use Rattle.plan_verdict.specs.declared.call.Call.{Call}
 use Rattle.plan_verdict.specs.declared.rule.Rule.TheVariants as rules
 use Rattle.plan_verdict.specs.Aggregates.{first_of, measured, measure_in}

@@ -14,10 +14,10 @@ use Rattle.plan_typed.specs.declared.rel.SetMeasure.{SetMeasure}
 use Rattle.plan_typed.specs.declared.rel.TypedMeasure.{TypedMeasure}
 use Rattle.plan_typed.specs.Numbers.{numbers_of}
 use Rattle.plan_typed.specs.Types.{ty_of, columns_of}
-use Rattle.plan_denote.specs.Columns.{has_place, group_type, number_column}
-use Rattle.plan_denote.specs.WellTyped.{MayBe, AreTyped, AreAll, IsMeasureOver, IsSetMeasureOver}
-use Rattle.plan_denote.proofs.ValidColumns.{typed_columns}
-use Rattle.plan_denote.proofs.MadeRel.{all_same, all_append}
+use Rattle.well_typed.specs.Columns.{has_place, group_type, number_column}
+use Rattle.well_typed.specs.WellTyped.{MayBe, AreTyped, AreAll, IsMeasureOver, IsSetMeasureOver}
+use Rattle.well_typed.proofs.ValidColumns.{typed_columns}
+use Rattle.well_typed.proofs.MadeRel.{all_same, all_append}
 use Rattle.plan_verdict.specs.declared.groups.Groups.{Groups}
 use Rattle.plan_verdict.specs.declared.rule.Rule.TheVariants as rules
 use Rattle.plan_verdict.specs.Aggregates.{MAX_GROUPINGS, aggregate, aggregate_columns}

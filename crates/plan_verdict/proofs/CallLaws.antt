@@ -25,9 +25,9 @@ use Rattle.func_table.specs.Find.{row_for}
 use Rattle.func_table.specs.Kinds.{is_equal}
 use Rattle.func_table.specs.Options.{honoured}
 use Rattle.func_table.specs.Table.{table}
-use Rattle.plan_denote.specs.ExprTyped.{Takes, IsCall, HasMode, IsResult}
-use Rattle.plan_denote.specs.Results.{result_of, is_of_scale, scale_for, is_result}
-use Rattle.plan_denote.specs.WellTyped.{MayBe}
+use Rattle.well_typed.specs.ExprTyped.{Takes, IsCall, HasMode, IsResult}
+use Rattle.well_typed.specs.Results.{result_of, is_of_scale, scale_for, is_result}
+use Rattle.well_typed.specs.WellTyped.{MayBe}
 use Rattle.plan_verdict.specs.declared.call.Call.{Call}
 use Rattle.plan_verdict.specs.declared.rule.Rule.{Rule}
 use Rattle.plan_verdict.specs.declared.rule.Rule.TheVariants as rules

@@ -22,12 +22,12 @@ use Rattle.plan_typed.specs.Types.{ty_of}
 use Rattle.func_table.proofs.KindLaws.{equal_kinds, is_equal-same}
 use Rattle.func_table.specs.declared.row.Class.TheVariants.{Scalar}
 use Rattle.func_table.specs.Kinds.{is_equal}
-use Rattle.plan_denote.specs.Casts.{can_cast}
-use Rattle.plan_denote.specs.ExprTyped.{IsTypedOver, IsCondition, AreAs, HasOne, IsOfKind}
-use Rattle.plan_denote.specs.Types.{kind_of, type_with, some_nullable}
-use Rattle.plan_denote.specs.WellTyped.{MayBe, IsConditionOver}
-use Rattle.plan_denote.proofs.Made.{const_typed, column_typed, call_typed, if_typed, switch_typed, one_of_typed, cast_typed}
-use Rattle.plan_denote.proofs.ValidKinds.{AreKinds, typed_kind}
+use Rattle.well_typed.specs.Casts.{can_cast}
+use Rattle.well_typed.specs.ExprTyped.{IsTypedOver, IsCondition, AreAs, HasOne, IsOfKind}
+use Rattle.well_typed.specs.Types.{kind_of, type_with, some_nullable}
+use Rattle.well_typed.specs.WellTyped.{MayBe, IsConditionOver}
+use Rattle.well_typed.proofs.Made.{const_typed, column_typed, call_typed, if_typed, switch_typed, one_of_typed, cast_typed}
+use Rattle.well_typed.proofs.ValidKinds.{AreKinds, typed_kind}
 use Rattle.plan_verdict.specs.declared.rule.Rule.{Rule}
 use Rattle.plan_verdict.specs.declared.rule.Rule.TheVariants as rules
 use Rattle.plan_verdict.specs.Checking.{Checking, ◌>>=◌, ◌>>◌, accept, must}

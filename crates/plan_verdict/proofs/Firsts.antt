@@ -22,7 +22,7 @@ use Rattle.plan_leaves.specs.declared.mask.MaskExpression.{MaskExpression}
 use Rattle.plan_leaves.specs.declared.schema.NamedStruct.{NamedStruct}
 use Rattle.plan_leaves.specs.declared.types.RawType.{RawType}
 use Rattle.plan_tree.specs.Fold.{Level, Opened}
-use Rattle.plan_denote.specs.WellTyped.{MayBe}
+use Rattle.well_typed.specs.WellTyped.{MayBe}
 
 -- what is known of each message
 pub record Claims : Type 1 where

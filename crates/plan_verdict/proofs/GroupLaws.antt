@@ -5,11 +5,11 @@ use Rattle.std.specs.List.{AllByRecursion, list_all, list_any, range_with_len, p
 use Rattle.std.proofs.lemmas.Bool.{and_parts}
 use Rattle.std.proofs.lemmas.Bool.Decides.{nat_tests}
 use Rattle.plan_typed.specs.declared.expr.Expr.{Expr}
-use Rattle.plan_denote.specs.Columns.{MAX_GROUPINGS}
-use Rattle.plan_denote.specs.ExprTyped.{IsTypedOver, HasOne}
-use Rattle.plan_denote.specs.WellTyped.{MayBe, AreBelow}
-use Rattle.plan_denote.proofs.MadeRel.{all_places}
-use Rattle.plan_denote.proofs.ValidKinds.{AreKinds}
+use Rattle.well_typed.specs.Columns.{MAX_GROUPINGS}
+use Rattle.well_typed.specs.ExprTyped.{IsTypedOver, HasOne}
+use Rattle.well_typed.specs.WellTyped.{MayBe, AreBelow}
+use Rattle.well_typed.proofs.MadeRel.{all_places}
+use Rattle.well_typed.proofs.ValidKinds.{AreKinds}
 use Rattle.plan_verdict.specs.declared.groups.Group.{Group}
 use Rattle.plan_verdict.specs.declared.groups.Groups.{Groups}
 use Rattle.plan_verdict.specs.declared.rule.Rule.TheVariants as rules

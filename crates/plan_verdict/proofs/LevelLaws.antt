@@ -10,9 +10,9 @@ use Rattle.plan_raw.specs.declared.expr.RawExpr.{RawExpr, RawExpr-F, roll-RawExp
 use Rattle.plan_raw.specs.declared.expr.RawExpr.TheVariants as e
 use Rattle.plan_tree.specs.Fold.{Opened}
 use Rattle.plan_typed.specs.declared.expr.Expr.{Expr}
-use Rattle.plan_denote.specs.ExprTyped.{IsTypedOver}
-use Rattle.plan_denote.specs.WellTyped.{MayBe, IsConditionOver}
-use Rattle.plan_denote.proofs.ValidKinds.{AreKinds}
+use Rattle.well_typed.specs.ExprTyped.{IsTypedOver}
+use Rattle.well_typed.specs.WellTyped.{MayBe, IsConditionOver}
+use Rattle.well_typed.proofs.ValidKinds.{AreKinds}
 use Rattle.plan_verdict.specs.declared.rule.Rule.TheVariants as rules
 use Rattle.plan_verdict.specs.Checking.{Checking, refuse}
 use Rattle.plan_verdict.specs.Exprs.{Terms, expression, member, if_clause, scalar, in_predicate, set_predicate}

@@ -19,7 +19,7 @@ use Rattle.plan_leaves.specs.declared.literal.RawLiteral.{RawLiteral}
 use Rattle.plan_leaves.specs.declared.literal.RawLiteral.TheVariants as literals
 use Rattle.func_table.proofs.KindLaws.{equal_kinds}
 use Rattle.func_table.specs.Kinds.{is_equal}
-use Rattle.plan_denote.specs.ExprTyped.{IsOfKind}
+use Rattle.well_typed.specs.ExprTyped.{IsOfKind}
 use Rattle.plan_verdict.specs.declared.rule.Rule.{Rule}
 use Rattle.plan_verdict.specs.declared.rule.Rule.TheVariants as rules
 use Rattle.plan_verdict.specs.Literals.{is_within, constant, constant_where, decimal_number, is_decimal, literal_in, value_of_kind, values_of_kind}

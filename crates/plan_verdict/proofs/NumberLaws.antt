@@ -15,12 +15,12 @@ use Rattle.plan_typed.specs.declared.sub.SubKind.TheVariants as sub_kinds
 use Rattle.plan_typed.specs.Numbers.{numbers_of}
 use Rattle.plan_typed.specs.Types.{ty_of, columns_of}
 use Rattle.sub_types.specs.declared.value.Value.TheVariants as values
-use Rattle.plan_denote.specs.ExprTyped.{IsTypedOver}
-use Rattle.plan_denote.specs.Types.{kind_of, type_with}
-use Rattle.plan_denote.specs.WellTyped.{AreTyped, IsTypedSub, HasColumnsOf, numbers_of_subs, MayBe}
-use Rattle.plan_denote.proofs.ValidColumns.{typed_columns}
-use Rattle.plan_denote.proofs.ValidKinds.{AreKinds}
-use Rattle.plan_denote.proofs.Made.{const_typed, one_of_typed}
+use Rattle.well_typed.specs.ExprTyped.{IsTypedOver}
+use Rattle.well_typed.specs.Types.{kind_of, type_with}
+use Rattle.well_typed.specs.WellTyped.{AreTyped, IsTypedSub, HasColumnsOf, numbers_of_subs, MayBe}
+use Rattle.well_typed.proofs.ValidColumns.{typed_columns}
+use Rattle.well_typed.proofs.ValidKinds.{AreKinds}
+use Rattle.well_typed.proofs.Made.{const_typed, one_of_typed}
 use Rattle.plan_verdict.specs.declared.progress.Progress.{Progress}
 use Rattle.plan_verdict.specs.declared.rule.Rule.TheVariants as rules
 use Rattle.plan_verdict.specs.Checking.{Checking, Refusal, go_on, done}

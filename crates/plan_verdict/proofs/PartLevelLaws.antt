@@ -15,8 +15,8 @@ use Rattle.plan_tree.specs.Fold.{Opened}
 use Rattle.plan_typed.specs.declared.expr.Expr.{Expr}
 use Rattle.plan_typed.specs.declared.rel.Source.{Source}
 use Rattle.plan_typed.specs.declared.rel.TypedMeasure.{TypedMeasure}
-use Rattle.plan_denote.specs.WellTyped.{MayBe, IsConditionOver, IsMeasureOver}
-use Rattle.plan_denote.proofs.ValidKinds.{AreKinds}
+use Rattle.well_typed.specs.WellTyped.{MayBe, IsConditionOver, IsMeasureOver}
+use Rattle.well_typed.proofs.ValidKinds.{AreKinds}
 use Rattle.plan_verdict.specs.Aggregates.{measured, measure_in}
 use Rattle.plan_verdict.specs.Checking.{Checking}
 use Rattle.plan_verdict.specs.Exprs.{Terms}

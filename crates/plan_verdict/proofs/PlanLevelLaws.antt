@@ -18,7 +18,7 @@ use Rattle.plan_raw.specs.declared.source.VirtualTable.{roll-VirtualTable}
 use Rattle.plan_tree.specs.Fold.{Opened}
 use Rattle.plan_typed.specs.declared.rel.Rel.{Rel}
 use Rattle.plan_typed.specs.Numbers.{numbers_of}
-use Rattle.plan_denote.specs.WellTyped.{MayBe, AreTyped}
+use Rattle.well_typed.specs.WellTyped.{MayBe, AreTyped}
 use Rattle.plan_verdict.specs.declared.rule.Rule.TheVariants as rules
 use Rattle.plan_verdict.specs.Checking.{Checking}
 use Rattle.plan_verdict.specs.Exprs.{Terms}

@@ -16,9 +16,9 @@ use Rattle.plan_typed.specs.declared.rel.Op.TheOpen.{Op-F}
 use Rattle.plan_typed.specs.declared.rel.Op.TheVariants as ops
 use Rattle.plan_typed.specs.declared.rel.Source.{Source}
 use Rattle.plan_typed.specs.Numbers.{numbers_of}
-use Rattle.plan_denote.specs.Columns.{columns_at}
-use Rattle.plan_denote.specs.WellTyped.{MayBe, AreTyped, AreBelow}
-use Rattle.plan_denote.proofs.MadeRel.{all_same, all_places}
+use Rattle.well_typed.specs.Columns.{columns_at}
+use Rattle.well_typed.specs.WellTyped.{MayBe, AreTyped, AreBelow}
+use Rattle.well_typed.proofs.MadeRel.{all_same, all_places}
 use Rattle.plan_verdict.specs.declared.rule.Rule.{Rule}
 use Rattle.plan_verdict.specs.declared.rule.Rule.TheVariants as rules
 use Rattle.plan_verdict.specs.Checking.{Checking}

@@ -15,12 +15,12 @@ use Rattle.plan_typed.specs.declared.rel.Rel.{Rel}
 use Rattle.plan_typed.specs.declared.rel.SortKey.{SortKey}
 use Rattle.plan_typed.specs.Numbers.{numbers_of}
 use Rattle.plan_typed.specs.Types.{ty_of, columns_of}
-use Rattle.plan_denote.specs.Columns.{MAX_COLUMNS, columns_at, join_columns}
-use Rattle.plan_denote.specs.ExprTyped.{IsTypedOver}
-use Rattle.plan_denote.specs.WellTyped.{MayBe, AreTyped, HasParts, direct_in, AreAll, AreBelow, IsConditionOver}
-use Rattle.plan_denote.proofs.ValidColumns.{append_valid, join_valid, typed_columns}
-use Rattle.plan_denote.proofs.ValidKinds.{AreKinds}
-use Rattle.plan_denote.proofs.MadeRel.{HasInputs, rel_typed, inner_numbers, numbers_made, all_same, all_length, all_at, all_places, range_length}
+use Rattle.well_typed.specs.Columns.{MAX_COLUMNS, columns_at, join_columns}
+use Rattle.well_typed.specs.ExprTyped.{IsTypedOver}
+use Rattle.well_typed.specs.WellTyped.{MayBe, AreTyped, HasParts, direct_in, AreAll, AreBelow, IsConditionOver}
+use Rattle.well_typed.proofs.ValidColumns.{append_valid, join_valid, typed_columns}
+use Rattle.well_typed.proofs.ValidKinds.{AreKinds}
+use Rattle.well_typed.proofs.MadeRel.{HasInputs, rel_typed, inner_numbers, numbers_made, all_same, all_length, all_at, all_places, range_length}
 use Rattle.plan_verdict.specs.declared.rule.Rule.{Rule}
 use Rattle.plan_verdict.specs.declared.rule.Rule.TheVariants as rules
 use Rattle.plan_verdict.specs.Checking.{Checking}

@@ -16,9 +16,9 @@ use Rattle.plan_typed.specs.declared.rel.Source.{Source}
 use Rattle.plan_typed.specs.declared.rel.Source.TheVariants as sources
 use Rattle.func_table.proofs.KindLaws.{equal_kinds}
 use Rattle.func_table.specs.Kinds.{is_equal}
-use Rattle.plan_denote.specs.ExprTyped.{IsTypedOver, HasOne}
-use Rattle.plan_denote.specs.Types.{kind_of}
-use Rattle.plan_denote.specs.WellTyped.{IsRowOf, IsSourceOf}
+use Rattle.well_typed.specs.ExprTyped.{IsTypedOver, HasOne}
+use Rattle.well_typed.specs.Types.{kind_of}
+use Rattle.well_typed.specs.WellTyped.{IsRowOf, IsSourceOf}
 use Rattle.plan_verdict.specs.declared.rule.Rule.{Rule}
 use Rattle.plan_verdict.specs.declared.rule.Rule.TheVariants as rules
 use Rattle.plan_verdict.specs.Checking.{Checking, part, in_order}

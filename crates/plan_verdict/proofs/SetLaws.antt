@@ -10,10 +10,10 @@ use Rattle.plan_typed.specs.declared.rel.Op.TheVariants as ops
 use Rattle.plan_typed.specs.declared.rel.Rel.{Rel}
 use Rattle.plan_typed.specs.Numbers.{numbers_of}
 use Rattle.plan_typed.specs.Types.{columns_of}
-use Rattle.plan_denote.specs.Columns.{set_columns, are_of_kinds}
-use Rattle.plan_denote.specs.ExprTyped.{HasOne}
-use Rattle.plan_denote.specs.WellTyped.{MayBe, AreTyped, AreAll, AreInputs, set_columns_of}
-use Rattle.plan_denote.proofs.MadeRel.{all_same}
+use Rattle.well_typed.specs.Columns.{set_columns, are_of_kinds}
+use Rattle.well_typed.specs.ExprTyped.{HasOne}
+use Rattle.well_typed.specs.WellTyped.{MayBe, AreTyped, AreAll, AreInputs, set_columns_of}
+use Rattle.well_typed.proofs.MadeRel.{all_same}
 use Rattle.plan_verdict.specs.declared.rule.Rule.TheVariants as rules
 use Rattle.plan_verdict.specs.Checking.{Checking, in_order, part}
 use Rattle.plan_verdict.specs.Relation.{numbered}

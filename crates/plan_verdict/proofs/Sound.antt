@@ -7,7 +7,7 @@ use Rattle.std.specs.Prelude.{length, count_by, nat_le, nat_lt, ◌&&◌, map}
 use Rattle.std.specs.List.{AllByRecursion}
 use Rattle.std.proofs.lemmas.List.Sums.{sum_by-append}
 use Rattle.std.proofs.lemmas.Bool.Decides.{nat_tests}
-use Rattle.plan_denote.specs.WellTyped.{IsTypedSub, numbers_of_subs, MayBe}
+use Rattle.well_typed.specs.WellTyped.{IsTypedSub, numbers_of_subs, MayBe}
 use Rattle.plan_verdict.specs.declared.progress.Progress.{Progress}
 use Rattle.plan_verdict.specs.declared.rule.Rule.{Rule}
 use Rattle.plan_verdict.specs.Checking.{Checking, Refusal, go_on, ◌>>=◌, ◌>>◌, accept, refuse, part, must, present, in_order, next_node}

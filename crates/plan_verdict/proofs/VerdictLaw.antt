@@ -10,7 +10,7 @@ use Rattle.plan_typed.specs.declared.rel.Typed.{Typed}
 use Rattle.plan_typed.specs.declared.sub.Holed.{Holed}
 use Rattle.plan_typed.specs.Numbers.{numbers_of}
 use Rattle.plan_typed.specs.Types.{columns_of}
-use Rattle.plan_denote.specs.WellTyped.{AreTyped, IsWellTyped, IsWellTypedAlone, numbers_of_subs, MayBe}
+use Rattle.well_typed.specs.WellTyped.{AreTyped, IsWellTyped, IsWellTypedAlone, numbers_of_subs, MayBe}
 use Rattle.plan_verdict.specs.declared.progress.Progress.{Progress}
 use Rattle.plan_verdict.specs.declared.rule.CheckError.{CheckError}
 use Rattle.plan_verdict.specs.declared.rule.Rule.TheVariants as rules

@@ -15,7 +15,7 @@ use Rattle.plan_typed.specs.declared.rel.Rel.{Rel}
 use Rattle.plan_typed.specs.declared.rel.SetMeasure.{SetMeasure}
 use Rattle.plan_typed.specs.declared.rel.TypedMeasure.{TypedMeasure}
 use Rattle.plan_typed.specs.Types.{ty_of, columns_of}
-pub use Rattle.plan_denote.specs.Columns.{MAX_GROUPINGS, has_place, group_type, number_column}
+pub use Rattle.well_typed.specs.Columns.{MAX_GROUPINGS, has_place, group_type, number_column}
 use Rattle.plan_verdict.specs.Same.{same_expr}
 use Rattle.func_table.specs.declared.row.Class.TheVariants as classes
 use Rattle.plan_verdict.specs.declared.groups.Group.{Group}

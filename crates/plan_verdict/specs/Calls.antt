@@ -20,7 +20,7 @@ use Rattle.func_table.specs.Entry.{Signature}
 use Rattle.func_table.specs.Find.{row_for, is_known}
 use Rattle.func_table.specs.Kinds.{key_of_kinds}
 use Rattle.func_table.specs.Options.{honoured}
-pub use Rattle.plan_denote.specs.Results.{scale_for, is_of_scale, first_kind, result_of, is_result, is_nullable_call}
+pub use Rattle.well_typed.specs.Results.{scale_for, is_of_scale, first_kind, result_of, is_result, is_nullable_call}
 use Rattle.plan_verdict.specs.declared.call.Call.{Call}
 use Rattle.plan_verdict.specs.declared.rule.Rule.{Rule}
 use Rattle.plan_verdict.specs.declared.rule.Rule.TheVariants as rules

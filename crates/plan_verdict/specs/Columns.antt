@@ -13,7 +13,7 @@ use Rattle.plan_leaves.specs.declared.schema.NamedStruct.{NamedStruct}
 use Rattle.plan_leaves.specs.declared.types.StructType.{StructType}
 use Rattle.plan_typed.specs.declared.rel.Op.{Op}
 use Rattle.plan_typed.specs.declared.rel.Rel.{Rel, roll-Rel}
-pub use Rattle.plan_denote.specs.Columns.{MAX_COLUMNS, columns_at}
+pub use Rattle.well_typed.specs.Columns.{MAX_COLUMNS, columns_at}
 use Rattle.plan_verdict.specs.declared.rule.Rule.{Rule}
 use Rattle.plan_verdict.specs.declared.rule.Rule.TheVariants as rules
 use Rattle.plan_verdict.specs.Types.{type_in}

@@ -21,7 +21,7 @@ use Rattle.plan_typed.specs.declared.sub.SubKind.TheVariants as sub_kinds
 use Rattle.plan_typed.specs.Types.{ty_of, columns_of}
 use Rattle.func_table.specs.declared.row.Class.TheVariants.{Scalar}
 use Rattle.func_table.specs.Kinds.{is_equal}
-pub use Rattle.plan_denote.specs.Types.{kind_of, type_with, some_nullable}
+pub use Rattle.well_typed.specs.Types.{kind_of, type_with, some_nullable}
 use Rattle.plan_verdict.specs.declared.rule.Rule.TheVariants as rules
 use Rattle.plan_verdict.specs.Calls.{Declared, named_in, call_in}
 use Rattle.plan_verdict.specs.Casts.{can_cast}

@@ -16,7 +16,7 @@ use Rattle.plan_typed.specs.declared.rel.Rel.{Rel}
 use Rattle.plan_typed.specs.declared.rel.SortKey.{SortKey}
 use Rattle.plan_typed.specs.declared.rel.Source.{Source}
 use Rattle.plan_typed.specs.Types.{ty_of, columns_of}
-pub use Rattle.plan_denote.specs.Columns.{nullable, join_columns}
+pub use Rattle.well_typed.specs.Columns.{nullable, join_columns}
 use Rattle.plan_verdict.specs.declared.rule.Rule.TheVariants as rules
 use Rattle.plan_verdict.specs.Checking.{Checking, ◌>>=◌, accept, part, in_order}
 use Rattle.plan_verdict.specs.Exprs.{condition, each_in, required}

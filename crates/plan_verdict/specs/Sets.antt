@@ -10,7 +10,7 @@ use Rattle.plan_typed.specs.declared.rel.Rel.{Rel}
 use Rattle.plan_typed.specs.declared.rel.SetOp.{SetOp}
 use Rattle.plan_typed.specs.declared.rel.SetOp.TheVariants as sets
 use Rattle.plan_typed.specs.Types.{columns_of}
-pub use Rattle.plan_denote.specs.Columns.{is_nullable_in, is_nullable_at, are_of_kinds, set_columns}
+pub use Rattle.well_typed.specs.Columns.{is_nullable_in, is_nullable_at, are_of_kinds, set_columns}
 use Rattle.plan_verdict.specs.declared.rule.Rule.{Rule}
 use Rattle.plan_verdict.specs.declared.rule.Rule.TheVariants as rules
 use Rattle.plan_verdict.specs.Columns.{finished_in}

@@ -7,7 +7,7 @@ use Rattle.plan_typed.specs.declared.expr.Expr.{Expr, Expr-F, every-Expr, every_
 use Rattle.plan_typed.specs.declared.expr.Expr.TheVariants.{Const, rolls-Const, Column, rolls-Column, Call, rolls-Call, If, rolls-If, Switch, rolls-Switch, OneOf, rolls-OneOf, Cast, rolls-Cast}
 use Rattle.plan_typed.specs.declared.expr.Func.{Func}
 use Rattle.plan_typed.specs.declared.expr.Overflow.{Overflow}
-use Rattle.plan_denote.specs.ExprTyped.{IsNode, IsTypedOver}
+use Rattle.well_typed.specs.ExprTyped.{IsNode, IsTypedOver}
 
 -- each of these with what holds of it
 abbrev With : {A : Type 0} → (A → Type 0) → Type 0

@@ -7,8 +7,8 @@ use Rattle.plan_typed.specs.declared.rel.Op.{Op, out-Op, roll-Op, out-roll-Op, e
 use Rattle.plan_typed.specs.declared.rel.Op.TheOpen.{Op-F}
 use Rattle.plan_typed.specs.declared.rel.Rel.{Rel, roll-Rel, every_made-Rel, fold-roll-Rel}
 use Rattle.plan_typed.specs.Numbers.{numbers_of, op_numbers}
-use Rattle.plan_denote.specs.Columns.{columns_at}
-use Rattle.plan_denote.specs.WellTyped.{IsRelation, AreTyped, HasParts, Emits, direct_in, AreAll, AreBelow}
+use Rattle.well_typed.specs.Columns.{columns_at}
+use Rattle.well_typed.specs.WellTyped.{IsRelation, AreTyped, HasParts, Emits, direct_in, AreAll, AreBelow}
 
 abbrev Nothing : Op-F Op Rel → Type 0
 Nothing _ = Unit {0}

@@ -17,9 +17,9 @@ use Rattle.func_table.specs.declared.row.Class.TheVariants.{Scalar}
 use Rattle.func_table.specs.Entry.{Entry, Signature, is_class, takes_kinds, all_agree}
 use Rattle.func_table.specs.Options.{honoured}
 use Rattle.func_table.specs.Table.{table}
-use Rattle.plan_denote.specs.Casts.{can_cast}
-use Rattle.plan_denote.specs.Results.{result_of, is_of_scale, scale_for, is_nullable_call}
-use Rattle.plan_denote.specs.Types.{kind_of, type_with}
+use Rattle.well_typed.specs.Casts.{can_cast}
+use Rattle.well_typed.specs.Results.{result_of, is_of_scale, scale_for, is_nullable_call}
+use Rattle.well_typed.specs.Types.{kind_of, type_with}
 
 -- a type is as another implies: of its kind, and nullable wherever that is
 pub record IsAs (implied given : Ty) : Type 0 where

@@ -11,10 +11,10 @@ use Rattle.plan_typed.specs.Types.{ty_in, ty_of}
 use Rattle.func_table.specs.declared.row.ResultRule.{ResultRule}
 use Rattle.func_table.specs.declared.row.ResultRule.TheVariants as results
 use Rattle.func_table.specs.Entry.{Signature}
-use Rattle.plan_denote.specs.ExprTyped.{IsAs, IsNode, IsResult, IsTypedOver, AreAs}
-use Rattle.plan_denote.specs.Results.{first_kind, result_of, is_of_scale, scale_for}
-use Rattle.plan_denote.specs.Types.{kind_of}
-use Rattle.plan_denote.specs.WellTyped.{MayBe}
+use Rattle.well_typed.specs.ExprTyped.{IsAs, IsNode, IsResult, IsTypedOver, AreAs}
+use Rattle.well_typed.specs.Results.{first_kind, result_of, is_of_scale, scale_for}
+use Rattle.well_typed.specs.Types.{kind_of}
+use Rattle.well_typed.specs.WellTyped.{MayBe}
 
 -- types of valid kinds
 abbrev pub AreKinds : List Ty → Type 0

@@ -23,9 +23,9 @@ use Rattle.plan_typed.specs.Numbers.{numbers_of}
 use Rattle.plan_typed.specs.Types.{ty_of, columns_of}
 use Rattle.func_table.specs.declared.row.Class.TheVariants.{Aggregate}
 use Rattle.func_table.specs.Entry.{Entry}
-use Rattle.plan_denote.specs.Columns.{MAX_COLUMNS, MAX_GROUPINGS, columns_at, join_columns, set_columns, are_of_kinds, group_type, number_column}
-use Rattle.plan_denote.specs.ExprTyped.{IsAs, IsCall, IsTypedOver, IsCondition, HasOne}
-use Rattle.plan_denote.specs.Types.{kind_of}
+use Rattle.well_typed.specs.Columns.{MAX_COLUMNS, MAX_GROUPINGS, columns_at, join_columns, set_columns, are_of_kinds, group_type, number_column}
+use Rattle.well_typed.specs.ExprTyped.{IsAs, IsCall, IsTypedOver, IsCondition, HasOne}
+use Rattle.well_typed.specs.Types.{kind_of}
 
 -- a condition over these columns
 abbrev pub IsConditionOver : List Ty → Expr → Type 0

@@ -16,11 +16,11 @@ use Rattle.plan_typed.specs.declared.rel.SetMeasure.{SetMeasure}
 use Rattle.plan_typed.specs.declared.rel.SetOp.{SetOp}
 use Rattle.plan_typed.specs.declared.rel.TypedMeasure.{TypedMeasure}
 use Rattle.plan_typed.specs.Types.{ty_of, columns_of}
-use Rattle.plan_denote.specs.Columns.{columns_at, nullable, join_columns, is_nullable_in, is_nullable_at, group_type, number_column}
-use Rattle.plan_denote.specs.ExprTyped.{IsTypedOver}
-use Rattle.plan_denote.specs.Types.{kind_of}
-use Rattle.plan_denote.specs.WellTyped.{MayBe, IsRelation, AreTyped, AreAll, HasParts, IsMeasureOver, IsSetMeasureOver, direct_in, set_columns_of}
-use Rattle.plan_denote.proofs.ValidKinds.{AreKinds, With, all_held, all_both, kind_at, call_valid, given_valid, typed_kind}
+use Rattle.well_typed.specs.Columns.{columns_at, nullable, join_columns, is_nullable_in, is_nullable_at, group_type, number_column}
+use Rattle.well_typed.specs.ExprTyped.{IsTypedOver}
+use Rattle.well_typed.specs.Types.{kind_of}
+use Rattle.well_typed.specs.WellTyped.{MayBe, IsRelation, AreTyped, AreAll, HasParts, IsMeasureOver, IsSetMeasureOver, direct_in, set_columns_of}
+use Rattle.well_typed.proofs.ValidKinds.{AreKinds, With, all_held, all_both, kind_at, call_valid, given_valid, typed_kind}
 
 pub append_valid : (a b : List Ty) → AreKinds a → AreKinds b → AreKinds (a ++ b)
 append_valid [] b all others = others
