@@ -1,0 +1,17 @@
+use Rattle.std.proofs.Common.{pos, neg_ℤ, FitsSigned, ap, ◌∙◌, arith}
+use Rattle.std.specs.Prelude.{int_div, int_rem}
+use Rattle.std.specs.Int.{w128}
+use Rattle.std.proofs.lemmas.Int.{to_z-of_z}
+use Rattle.eval_values.proofs.Exact.{number_along, difference_of_parts}
+use Rattle.eval_values.proofs.number.shifted_difference.Goals as goal
+
+pub returns-else-by-eq0 : goal.returns-else-by-eq0
+returns-else-by-eq0 c =
+    let low = to_z-of_z w128 c.args.low c.ranges.low in
+    let tens : FitsSigned w128 c.minus_tenth.result = record { sfits = c.minus_tenth.type_inv } in
+    let ones : FitsSigned w128 c.minus_last_digit.result = record { sfits = c.minus_last_digit.type_inv } in
+    number_along _ _ _
+    (difference_of_parts c.args.high c.args.low _ _ _ c.args.by (omega arith) (to_z-of_z w128 c.args.high c.ranges.high)
+    (to_z-of_z w128 _ tens ∙ c.minus_tenth.ensures.value ∙ ap (λ z. neg_ℤ (int_div z (pos 10))) low)
+    (to_z-of_z w128 _ ones ∙ c.minus_last_digit.ensures.value ∙ ap (λ z. neg_ℤ (int_rem z (pos 10))) low))
+    (c.tens_and_ones.ensures _ c.shifted.ensures)

@@ -1,0 +1,2 @@
+pub mod EvalLaws
+mod WorkedRows

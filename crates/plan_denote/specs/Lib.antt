@@ -1,0 +1,9 @@
+pub mod Computed
+pub mod Order
+pub mod Logic
+pub mod Whole
+pub mod Decimals
+pub mod Texts
+pub mod Calls
+pub mod Casts
+pub mod Eval

@@ -1,0 +1,65 @@
+-- The functions of functions_boolean.yaml and functions_comparison.yaml, and what chooses among values.
+use Rattle.std.specs.Prelude.{List, [], ◌∷◌, Bool, true, false, not, ◌&&◌, ◌||◌, map, Ok, if◌then◌else◌}
+use Rattle.std.proofs.Math.Bool.{beq}
+use Rattle.std.specs.declared.cmp.Ordering.{Ordering}
+use Rattle.std.specs.Ordering.{is_eq, is_lt, is_gt}
+use Rattle.sub_types.specs.declared.value.Value.{Value}
+use Rattle.sub_types.specs.declared.value.Value.TheVariants as values
+use Rattle.plan_denote.specs.Computed.{Computed, ◌>>=◌, truth, null, is_null, is_true}
+use Rattle.plan_denote.specs.Order.{value_cmp, is_same}
+
+-- what follows the value of one argument of `and` or `or`: the truth value that ends it, or the rest, in which a null may have been seen
+abbrev pub after : Bool → Bool → Value → (Bool → Computed) → Computed
+after end seen_null (values.Bool test) rest = if beq test end then truth end else rest seen_null
+after end seen_null _ rest = rest true
+
+-- the arguments in order: the first that is `end` ends it; else it is null where one is null, and else the other truth value
+abbrev pub ends_at : Bool → Bool → List Computed → Computed
+ends_at end seen_null [] = if seen_null then null else truth (not end)
+ends_at end seen_null (arg ∷ args) = arg >>= (λ value. after end seen_null value (λ seen. ends_at end seen args))
+
+-- `and` ends at the first false, `or` at the first true
+abbrev pub and_of : List Computed → Computed
+and_of = ends_at false false
+
+abbrev pub or_of : List Computed → Computed
+or_of = ends_at true false
+
+abbrev pub not_of : Value → Computed
+not_of (values.Bool test) = truth (not test)
+not_of _ = null
+
+abbrev pub xor_of : Value → Value → Computed
+xor_of (values.Bool a) (values.Bool b) = truth (not (beq a b))
+xor_of _ _ = null
+
+-- a comparison of two values, null where one is null
+abbrev pub compared : (Ordering → Bool) → Value → Value → Computed
+compared test a b = if is_null a || is_null b then null else truth (test (value_cmp a b))
+
+-- whether the first is at least the second and at most the third
+abbrev pub between : Value → Value → Value → Computed
+between value low high = if is_null value || is_null low || is_null high then null else truth (not (is_lt (value_cmp value low)) && not (is_gt (value_cmp value high)))
+
+-- the first value that isn't null
+abbrev pub coalesce : List Computed → Computed
+coalesce [] = null
+coalesce (arg ∷ args) = arg >>= (λ value. if is_null value then coalesce args else Ok value)
+
+-- null where the two are equal, and else the first
+abbrev pub nullif : Value → Value → Computed
+nullif a b = if not (is_null a) && is_same a b then null else Ok a
+
+-- whether a value is one of the options, which are evaluated in order up to the first that equals it: `or` over the comparisons
+abbrev pub one_of : Value → List Computed → Computed
+one_of value options = or_of (map (λ option. option >>= (λ other. compared is_eq value other)) options)
+
+-- the value of the first arm whose condition is true, or the else
+abbrev pub first_true : List (Computed × Computed) → Computed → Computed
+first_true [] other = other
+first_true ((condition, value) ∷ arms) other = condition >>= (λ test. if is_true test then value else first_true arms other)
+
+-- the value of the first arm whose literal equals the subject, or the else, which a null subject takes
+abbrev pub first_equal : Value → List (Value × Computed) → Computed → Computed
+first_equal subject [] other = other
+first_equal subject ((literal, value) ∷ arms) other = if not (is_null subject) && is_same subject literal then value else first_equal subject arms other

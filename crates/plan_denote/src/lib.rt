@@ -1,0 +1,2 @@
+//! What a checked plan is worth, by definitions over the typed tree (`plan_typed`): what an expression is worth at a row.
+#![tactic(auto)]
