@@ -1,5 +1,5 @@
 -- What a command line denotes over the files of a folder, and which statuses, files and reports fit it.
-use Rattle.std.specs.Prelude.{◌≡◌, ◌⊎◌, ℕ, ◌+◌, ◌/◌, ◌^◌, List, [], ◌∷◌, Option, Result, Ok, Err, length, map, IsOkAnd, if◌then◌else◌, nat_le}
+use Rattle.std.specs.Prelude.{◌≡◌, ◌⊎◌, ℕ, ◌+◌, ◌/◌, ◌^◌, List, [], ◌∷◌, true, Option, Result, Ok, Err, length, map, IsOkAnd, if◌then◌else◌, nat_le}
 use Rattle.std.specs.Option.{ok_or}
 use Rattle.std.specs.FinMap.{get}
 use Rattle.world.specs.Files.{Files, written, IsPartWritten}
@@ -14,11 +14,15 @@ use Rattle.plan_parts.specs.Reader.{plan_of}
 use Rattle.plan_form.specs.Form.{Form, Named, Rows, form_of}
 use Rattle.run_top.specs.declared.status.Status.{Status}
 use Rattle.run_top.specs.declared.status.Status.TheVariants as status
-use Rattle.run_top.specs.declared.status.Rule.TheVariants as rules
+use Rattle.plan_verdict.specs.Checking.{Refusal}
+use Rattle.plan_verdict.specs.Verdict.{verdict}
+use Rattle.plan_verdict.specs.declared.rule.Rule.{Rule}
+use Rattle.plan_verdict.specs.declared.rule.Rule.TheVariants as rules
+use Rattle.plan_typed.specs.declared.sub.Holed.{Holed}
 use Rattle.table_open.specs.declared.error.FileRule.TheVariants as file_rules
 use Rattle.run_top.specs.declared.status.Report.{Report}
 use Rattle.run_top.specs.declared.status.PipeReceipt.{PipeReceipt}
-use Rattle.run_top.specs.Words.{Reading, reading_of}
+use Rattle.run_top.specs.Words.{Reading, reading_of, plan_to_check}
 use Rattle.sub_types.specs.ResultSteps.{◌>>=◌}
 use Rattle.run_top.specs.Tables.{Table, named_table}
 use Rattle.run_top.specs.TableRead.{IsTableRefusal}
@@ -53,11 +57,37 @@ flawless (Err flaw) = Err (unreadable flaw)
 unfoldable pub tree_in : List ℕ → Result PlanTree Status
 tree_in bytes = if nat_le (length bytes) MAX_PLAN then flawless (plan_of bytes) else Err (status.PlanUnreadable MAX_PLAN)
 
+-- the tree, unless the verdict refuses it
+abbrev pub judged : PlanTree → Result Holed Refusal → Result PlanTree Status
+judged tree (Ok holed) = Ok tree
+judged tree (Err refusal) = Err (status.PlanRefused refusal.relation refusal.rule)
+
+-- the tree of a plan's bytes that the verdict accepts, subqueries taken
+unfoldable pub accepted_in : List ℕ → Result PlanTree Status
+accepted_in bytes = do
+  tree ← tree_in bytes
+  judged tree (verdict true tree)
+
+-- the form of an accepted plan. For now, what isn't of the form that is run is refused, at relation 0 whatever it lacks.
+abbrev pub formed : PlanTree → Result Form Status
+formed tree = ok_or (form_of tree) (status.PlanRefused 0 rules.UnsupportedForm)
+
 -- the form of a plan's bytes
 unfoldable pub form_in : List ℕ → Result Form Status
 form_in bytes = do
-  tree ← tree_in bytes
-  ok_or (form_of tree) (status.PlanRefused 0 rules.UnsupportedForm)
+  tree ← accepted_in bytes
+  formed tree
+
+-- the bytes of the plan of this name
+abbrev pub plan_at : Files → List ℕ → Result (List ℕ) Status
+plan_at files name = ok_or (get files name) (status.FileRefused 0 file_rules.Missing)
+
+-- the tree and the form of that plan
+abbrev pub accepted_at : Files → List ℕ → Result PlanTree Status
+accepted_at files name = plan_at files name >>= accepted_in
+
+abbrev pub form_at : Files → List ℕ → Result Form Status
+form_at files name = plan_at files name >>= form_in
 
 -- the batches of so many rows of a virtual table: 1,024 rows each, the last shorter
 abbrev pub batch_count : ℕ → ℕ
@@ -88,14 +118,20 @@ done_in files reading form = do
   table ← source_table files reading form
   done_with reading form.names form.types table
 
--- the first refusal, or what is done: the words are read, the plan is found and readable, it is of the form, its table is read, and
--- its rows are the file
+-- the first refusal, or what is done: the words are read, the plan is found, readable and accepted, it is of the form, its table is
+-- read, and its rows are the file
 unfoldable pub answer : List (List ℕ) → Files → Result Done Status
 answer words files = do
   reading ← ok_or (reading_of words) status.Usage
-  plan ← ok_or (get files reading.plan) (status.FileRefused 0 file_rules.Missing)
+  plan ← plan_at files reading.plan
   form ← form_in plan
   done_in files reading form
+
+-- the first refusal of `check PLAN`, or the tree of the accepted plan: the words are read, and the plan is found, readable and accepted
+unfoldable pub check_answer : List (List ℕ) → Files → Result PlanTree Status
+check_answer words files = do
+  name ← ok_or (plan_to_check words) status.Usage
+  accepted_at files name
 
 -- the receipt of the one read relation, of so many batches and workers: each batch was claimed once, and was finished by one worker or is left
 pub record IsReceiptOf (batches workers : ℕ) (receipt : PipeReceipt) : Type 0 where
@@ -124,12 +160,53 @@ IsDenoted (Ok done) (status.Ok report) = IsReport done report
 IsDenoted (Ok done) refusal = ⊥
 IsDenoted (Err refusal) answered = answered ≡ refusal
 
--- why a plan isn't run
+-- a report of no rows and no receipts
+pub record IsEmpty (report : Report) : Type 0 where
+  pub rows : report.rows ≡ 0
+  pub receipts : report.receipts.items ≡ []
+
+-- Which status and files fit an answer of `check`. All files are as they were; a refusal is the denoted one.
+abbrev pub FitsCheck : Result PlanTree Status → Option Files → Option Files → Status → Type 0
+FitsCheck denoted before now (status.Ok report) = IsOkAnd denoted (λ _. IsEmpty report × (now ≡ before))
+FitsCheck denoted before now status.ReadFault = now ≡ before
+FitsCheck denoted before now status.NoMemory = now ≡ before
+FitsCheck denoted before now refusal = (denoted ≡ Err refusal) × (now ≡ before)
+
+-- the status is the denoted one of `check`
+abbrev pub IsCheckDenoted : Result PlanTree Status → Status → Type 0
+IsCheckDenoted (Ok tree) (status.Ok report) = IsEmpty report
+IsCheckDenoted (Ok tree) refusal = ⊥
+IsCheckDenoted (Err refusal) answered = answered ≡ refusal
+
+-- the verdict refuses some plan at this relation by this rule
+abbrev pub IsVerdict : ℕ → Rule → Type 0
+IsVerdict relation rule = (tree : PlanTree) × (verdict true tree ≡ Err (record { relation = relation; rule = rule }))
+
+-- the refusal is the denoted one; a read fault and want of memory are free
+abbrev pub IsRefusalOf : {A : Type 0} → Result A Status → Status → Type 0
+IsRefusalOf denoted status.ReadFault = Unit {0}
+IsRefusalOf denoted status.NoMemory = Unit {0}
+IsRefusalOf denoted refusal = denoted ≡ Err refusal
+
+-- why a plan isn't accepted
 abbrev pub IsPlanRefusal : Status → Type 0
 IsPlanRefusal (status.PlanUnreadable place) = Unit {0}
-IsPlanRefusal (status.PlanRefused relation rule) = (relation ≡ 0) × (rule ≡ rules.UnsupportedForm)
+IsPlanRefusal (status.PlanRefused relation rule) = IsVerdict relation rule
+IsPlanRefusal (status.FileRefused file rule) = (file ≡ 0) × (rule ≡ file_rules.Missing)
+IsPlanRefusal status.ReadFault = Unit {0}
 IsPlanRefusal status.NoMemory = Unit {0}
 IsPlanRefusal _ = ⊥
+
+-- the answers of `check` that can come, whatever the folder tells
+abbrev pub IsCheckNamed : Status → Type 0
+IsCheckNamed (status.Ok report) = IsEmpty report
+IsCheckNamed status.Usage = Unit {0}
+IsCheckNamed refusal = IsPlanRefusal refusal
+
+-- why a plan isn't run
+abbrev pub IsFormRefusal : Status → Type 0
+IsFormRefusal (status.PlanRefused relation rule) = IsVerdict relation rule ⊎ ((relation ≡ 0) × (rule ≡ rules.UnsupportedForm))
+IsFormRefusal refusal = IsPlanRefusal refusal
 
 -- what comes of rows that are written
 abbrev pub IsWriteOutcome : Status → Type 0
@@ -148,7 +225,7 @@ IsOutcome refusal = IsTableRefusal refusal
 
 -- the answers that can come today, whatever the folder tells
 abbrev pub IsNamed : Status → Type 0
-IsNamed (status.PlanRefused relation rule) = (relation ≡ 0) × (rule ≡ rules.UnsupportedForm)
+IsNamed (status.PlanRefused relation rule) = IsFormRefusal (status.PlanRefused relation rule)
 IsNamed (status.FileRefused file rule) = ((file ≡ 0) × (rule ≡ file_rules.Missing)) ⊎ IsTableRefusal (status.FileRefused file rule)
 IsNamed (status.DataFault fault) = IsTableRefusal (status.DataFault fault) ⊎ (fault ≡ record { relation = 0; kind = kinds.TooManyRows })
 IsNamed _ = Unit {0}

@@ -8,4 +8,5 @@ pub mod Tables
 pub mod TableSeen
 pub mod TableRead
 pub mod Answer
+pub mod Command
 pub mod SameRows

@@ -3,8 +3,8 @@ use Rattle.std.specs.Prelude.{ℕ, List, [], ◌∷◌, ◌++◌, codes, decimal
 use Rattle.std.specs.List.{flat_map}
 use Rattle.run_top.specs.declared.status.Status.{Status}
 use Rattle.run_top.specs.declared.status.Status.TheVariants as status
-use Rattle.run_top.specs.declared.status.Rule.{Rule}
-use Rattle.run_top.specs.declared.status.Rule.TheVariants as rules
+use Rattle.plan_verdict.specs.declared.rule.Rule.{Rule}
+use Rattle.plan_verdict.specs.declared.rule.Rule.TheVariants as rules
 use Rattle.table_open.specs.declared.error.FileRule.{FileRule}
 use Rattle.table_open.specs.declared.error.FileRule.TheVariants as file_rules
 use Rattle.sub_types.specs.declared.fault.FaultKind.{FaultKind}
@@ -82,3 +82,8 @@ line_of (status.DataFault fault) = told_text (codes "data fault: relation ") fau
 line_of status.ReadFault = codes "read fault\n"
 line_of status.WriteFault = codes "write fault\n"
 line_of status.NoMemory = codes "no memory\n"
+
+-- the line of an answer of `check`
+unfoldable pub check_line_of : Status → List ℕ
+check_line_of (status.Ok report) = codes "plan accepted\n"
+check_line_of refusal = line_of refusal

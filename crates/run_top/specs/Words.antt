@@ -1,10 +1,12 @@
 -- What the words of a command line mean.
-use Rattle.std.specs.Prelude.{◌≡◌, ◌≤◌, ℕ, List, [], ◌∷◌, Bool, Option, Some, None, if◌then◌else◌, ◌&&◌, not, ◌==◌, nat_le, length, codes, decimal}
+use Rattle.std.specs.Prelude.{◌≡◌, ◌≤◌, ℕ, List, [], ◌∷◌, Bool, Option, Some, None, if◌then◌else◌, ◌&&◌, not, nat_le, length, codes, decimal}
 use Rattle.std.specs.List.{list_all}
 use Rattle.std.specs.Option.{option_map}
 use Rattle.std.specs.Str.{bytes_eq}
 use Rattle.std.specs.Str.Parse.{digits_value}
 use Rattle.table_open.specs.Words.{name_in, file_in}
+use Rattle.run_top.specs.declared.words.Command.{Command}
+use Rattle.run_top.specs.declared.words.Command.TheVariants as commands
 
 -- the word is the decimal digits of the number, which is from 1 to `most`
 abbrev pub IsNumber : List ℕ → ℕ → ℕ → Type 0
@@ -46,3 +48,13 @@ reading_of (command ∷ plan ∷ out ∷ workers ∷ bindings) =
     then option_map (λ n. record { plan = plan; out = out; workers = n; bindings = bindings }) (number_within 64 workers)
     else None
 reading_of _ = None
+
+-- the plan of `check PLAN`
+unfoldable pub plan_to_check : List (List ℕ) → Option (List ℕ)
+plan_to_check (command ∷ plan ∷ []) = if bytes_eq command (codes "check") && not (bytes_eq plan []) then Some plan else None
+plan_to_check _ = None
+
+-- the command that the first word names; what names no command is answered by `run`, as faulty words
+abbrev pub command_of : List (List ℕ) → Command
+command_of (word ∷ words) = if bytes_eq word (codes "check") then commands.Check else commands.Run
+command_of [] = commands.Run

@@ -1,14 +1,15 @@
 // The command that the words name.
-ghost use Rattle.std.specs.Prelude.{◌≡◌, ◌⊎◌, ◌↔◌, Some, None};
+ghost use Rattle.std.specs.Prelude.{◌≡◌, ◌⊎◌, ◌↔◌, Some};
 ghost use Rattle.world.specs.Counts.{Rose};
 ghost use Rattle.world.specs.Files.{Files};
-ghost use Rattle.run_top.specs.Words.{reading_of};
-ghost use Rattle.run_top.specs.Lines.{line_of};
+ghost use Rattle.run_top.specs.Words as spec;
 ghost use Rattle.run_top.specs.Said.{IsSaid};
-ghost use Rattle.run_top.specs.Answer.{answer, FitsFiles, IsDenoted, IsNamed};
+ghost use Rattle.run_top.specs.Command.{FitsCommand, IsCommandDenoted, HasNoReading, IsCommandNamed, command_line_of};
 
+use crate::check::check_main;
 use crate::run::run_main;
 use crate::status::Status;
+use crate::words::{Command, command_of};
 use std::alloc::Global;
 use std::marker::Sync;
 use std::sync::Wait;
@@ -16,8 +17,8 @@ use std::thread::Threads;
 use sub_types::Word;
 use world::{Folder, Gate, Notes};
 
-/// Does the command that the first word names. So far there is `run` alone, and words that name no command are
-/// answered by it too, as faulty ones.
+/// Does the command that the first word names: `run` or `check`. Words that name no command are answered by `run`, as
+/// faulty ones.
 pub fn command_main<F: Folder, N: Notes, G: Gate, H: Threads + Wait + Sync>(
     rt: &H,
     alloc: Global,
@@ -27,16 +28,19 @@ pub fn command_main<F: Folder, N: Notes, G: Gate, H: Threads + Wait + Sync>(
     gate: &G,
 ) -> Status
     ensures files { (files : Files) → F.files folder.old ≡ Some files
-        → FitsFiles (answer words.now files) (F.files folder.old) (F.files folder.new) result }
+        → FitsCommand (spec.command_of words.now) words.now files (F.files folder.old) (F.files folder.new) result }
     ensures complete { (files : Files) → F.files folder.old ≡ Some files
         → Rose (F.read_faults folder.old) (F.read_faults folder.new) ⊎ Rose (F.write_faults folder.old) (F.write_faults folder.new)
-        ⊎ (result ≡ Status.NoMemory) ⊎ IsDenoted (answer words.now files) result }
-    ensures usage { (result ≡ Status.Usage) ↔ (reading_of words.now ≡ None) }
-    ensures named { IsNamed result }
+        ⊎ (result ≡ Status.NoMemory) ⊎ IsCommandDenoted (spec.command_of words.now) words.now files result }
+    ensures usage { (result ≡ Status.Usage) ↔ HasNoReading (spec.command_of words.now) words.now }
+    ensures named { IsCommandNamed (spec.command_of words.now) result }
     ensures read_fault { result ≡ Status.ReadFault → Rose (F.read_faults folder.old) (F.read_faults folder.new) }
     ensures write_fault { result ≡ Status.WriteFault → Rose (F.write_faults folder.old) (F.write_faults folder.new) }
     ensures lent { F.lent folder.new ≡ F.lent folder.old }
-    ensures notes { IsSaid (N.text notes.old) (N.text notes.new) (N.failures notes.old) (N.failures notes.new) (line_of result) }
+    ensures notes { IsSaid (N.text notes.old) (N.text notes.new) (N.failures notes.old) (N.failures notes.new) (command_line_of (spec.command_of words.now) result) }
 {
-    run_main(rt, alloc, words, folder, notes, gate)
+    match command_of(words) {
+        Command::Check => check_main(alloc, words, folder, notes),
+        Command::Run => run_main(rt, alloc, words, folder, notes, gate),
+    }
 }

@@ -2,11 +2,12 @@
 ghost use Rattle.std.specs.Prelude.{◌≡◌, [], ◌∷◌, ◌++◌, decimal, codes};
 ghost use Rattle.std.specs.Option.{option_map_or};
 ghost use Rattle.std.specs.List.{flat_map};
-ghost use Rattle.run_top.specs.Lines.{rule_words, file_rule_words, fault_words, told_text, line_of};
+ghost use Rattle.run_top.specs.Lines.{rule_words, file_rule_words, fault_words, told_text, line_of, check_line_of};
 ghost use Rattle.run_top.specs.Said.{IsSaid, words_seen};
 
-use crate::status::{Rule, Status};
+use crate::status::Status;
 use itoa::Buffer;
+use plan_verdict::Rule;
 use std::alloc::Global;
 use sub_types::FaultKind;
 use table_open::FileRule;
@@ -68,6 +69,17 @@ pub(crate) fn say_line<N: Notes>(alloc: Global, notes: &mut N, status: &Status)
         Status::ReadFault => say_text(alloc, notes, "read fault\n"),
         Status::WriteFault => say_text(alloc, notes, "write fault\n"),
         Status::NoMemory => say_text(alloc, notes, "no memory\n"),
+    }
+}
+
+/// Says the line of an answer of `check`.
+#[tactic(auto, unfolding(crate::specs::Lines::check_line_of))]
+pub(crate) fn say_check_line<N: Notes>(alloc: Global, notes: &mut N, status: &Status)
+    ensures { IsSaid (N.text notes.old) (N.text notes.new) (N.failures notes.old) (N.failures notes.new) (check_line_of status.now) }
+{
+    match status {
+        Status::Ok(_) => say_text(alloc, notes, "plan accepted\n"),
+        refusal => say_line(alloc, notes, refusal),
     }
 }
 

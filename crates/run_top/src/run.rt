@@ -11,27 +11,26 @@ ghost use Rattle.run_top.specs.ReadingSeen.{reading_seen};
 ghost use Rattle.run_top.specs.TableSeen.{table_seen};
 ghost use Rattle.run_top.specs.Lines.{line_of};
 ghost use Rattle.run_top.specs.Said.{IsSaid};
-ghost use Rattle.run_top.specs.Answer.{MAX_PLAN, MAX_ROWS, answer, form_in, done_in, done_with, done_of, FitsFiles, IsDenoted, IsNamed, IsPlanRefusal, IsOutcome, IsWriteOutcome, IsReceiptOf};
+ghost use Rattle.run_top.specs.Answer.{MAX_ROWS, answer, form_at, done_in, done_with, done_of, FitsFiles, IsDenoted, IsNamed, IsRefusalOf, IsFormRefusal, IsOutcome, IsWriteOutcome, IsReceiptOf};
 ghost use Rattle.run_top.specs.declared.status.PipeReceipt.{PipeReceipt};
 
+use crate::accepted::accepted_plan;
 use crate::line::say_line;
-use crate::plan::{Found, MAX_PLAN, read_plan};
 use crate::receipts::one_receipt;
 use crate::rows::row_count;
-use crate::status::{Report, Rule, Status};
+use crate::status::{Report, Status};
 use crate::tables::named_batches;
 use crate::words::{Reading, read_words};
 use arrow_write::{WriteError, write_file};
 use batch::Batch;
-use plan_decode::{DecodeError, decode_plan};
 use plan_form::{Form, TableSource, form_of};
+use plan_verdict::Rule;
 use std::alloc::Global;
 use std::marker::Sync;
 use std::sync::Wait;
 use std::thread::Threads;
 use sub_types::{Fault, FaultKind, NoMemory, Word};
-use table_open::FileRule;
-use world::{Folder, FolderError, Gate, Notes};
+use world::{Folder, Gate, Notes};
 
 /// Runs a plan over the files of a folder: `run PLAN OUT WORKERS NAME=FILE..`. It says the line of its answer to the notes.
 pub fn run_main<F: Folder, N: Notes, G: Gate, H: Threads + Wait + Sync>(
@@ -68,7 +67,7 @@ pub fn run_main<F: Folder, N: Notes, G: Gate, H: Threads + Wait + Sync>(
 }
 
 // The answer, before anything is said.
-#[tactic(auto, unfolding(crate::specs::Answer::answer))]
+#[tactic(auto, unfolding(crate::specs::Answer::answer), using(crate::proofs::AnswerLaws::not_run))]
 fn run<F: Folder>(alloc: Global, words: &[Word], folder: &mut F) -> Status
     ensures files { (files : Files) → F.files folder.old ≡ Some files
         → FitsFiles (answer words.now files) (F.files folder.old) (F.files folder.new) result }
@@ -81,23 +80,7 @@ fn run<F: Folder>(alloc: Global, words: &[Word], folder: &mut F) -> Status
     let Some(reading) = read_words(words) else {
         return Status::Usage;
     };
-    let plan = match read_plan(alloc, folder, reading.plan) {
-        Ok(Found::Plan(plan)) => plan,
-        Ok(Found::TooLong) => {
-            return Status::PlanUnreadable {
-                place: MAX_PLAN as u64,
-            };
-        }
-        Ok(Found::Missing) => {
-            return Status::FileRefused {
-                file: 0,
-                rule: FileRule::Missing,
-            };
-        }
-        Err(FolderError::Failed) => return Status::ReadFault,
-        Err(FolderError::NoMemory) => return Status::NoMemory,
-    };
-    let form = match read_form(alloc, &plan) {
+    let form = match read_form(alloc, folder, reading.plan) {
         Ok(form) => form,
         Err(refusal) => return refusal,
     };
@@ -105,21 +88,23 @@ fn run<F: Folder>(alloc: Global, words: &[Word], folder: &mut F) -> Status
 }
 
 // The form of the plan, or why it isn't run.
-#[tactic(auto, unfolding(crate::specs::Answer::tree_in, crate::specs::Answer::form_in))]
-fn read_form(alloc: Global, plan: &[u8]) -> Result<Form, Status>
-    requires { length plan.now ≤ MAX_PLAN }
-    ensures form { IfOk result (λ form. form_in plan.now ≡ Ok (form_seen form)) }
+#[tactic(auto, using(crate::proofs::AnswerLaws::not_accepted))]
+fn read_form<F: Folder>(alloc: Global, folder: &mut F, plan: &str) -> Result<Form, Status>
+    ensures form { (files : Files) → F.files folder.old ≡ Some files → IfOk result (λ form. form_at files plan.now ≡ Ok (form_seen form)) }
     ensures sound { IfOk result IsSound }
     ensures batches { IfOk result (λ form. HasBatches form.types.items form.source) }
-    ensures refused { IfErr result (λ refusal. (refusal ≡ Status.NoMemory) ⊎ (form_in plan.now ≡ Err refusal)) }
-    ensures named { IfErr result IsPlanRefusal }
+    ensures refused { (files : Files) → F.files folder.old ≡ Some files
+        → IfErr result (IsRefusalOf (form_at files plan.now)) }
+    ensures named { IfErr result IsFormRefusal }
+    ensures read_fault { result ≡ Err Status.ReadFault → Rose (F.read_faults folder.old) (F.read_faults folder.new) }
+    ensures never_falls { F.read_faults folder.old ≤ F.read_faults folder.new }
+    ensures files { F.files folder.new ≡ F.files folder.old }
+    ensures write_faults { F.write_faults folder.new ≡ F.write_faults folder.old }
+    ensures lent { F.lent folder.new ≡ F.lent folder.old }
 {
-    let tree = match decode_plan(alloc, plan) {
+    let tree = match accepted_plan(alloc, folder, plan) {
         Ok(tree) => tree,
-        Err(DecodeError::Unreadable { place } | DecodeError::TooDeep { place }) => {
-            return Err(Status::PlanUnreadable { place });
-        }
-        Err(DecodeError::NoMemory) => return Err(Status::NoMemory),
+        Err(refusal) => return Err(refusal),
     };
     match form_of(alloc, &tree) {
         Ok(Some(form)) => Ok(form),

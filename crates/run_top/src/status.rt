@@ -2,27 +2,10 @@
 ghost use Rattle.std.specs.Prelude.{◌≡◌};
 ghost use Rattle.run_top.specs.Lines.{exit_of};
 
+use plan_verdict::Rule;
 use run_core::Receipt;
 use sub_types::Fault;
 use table_open::FileRule;
-
-/// Why a plan was refused.
-#[derive(Clone, Copy, Debug, PartialEq, Eq, Hash)]
-pub enum Rule {
-    UnknownRelation { number: u32 },
-    UnsupportedForm,
-    MissingField,
-    UnknownFunction,
-    BadArguments,
-    TypeMismatch,
-    BadReference,
-    BadMapping,
-    UnsupportedType,
-    UnsupportedOption,
-    BadLiteral,
-    BadNames,
-    TooMany,
-}
 
 /// What the workers did with the batches of one read relation.
 #[derive(Debug, Drop)]
@@ -52,6 +35,7 @@ pub enum Status {
     Usage,
     /// No record of the plan stands at this place, or it is too deep there.
     PlanUnreadable { place: u64 },
+    /// The relation with this number breaks the rule.
     PlanRefused { relation: u32, rule: Rule },
     /// File 0 is the plan; the others are numbered as they are bound.
     FileRefused { file: u32, rule: FileRule },

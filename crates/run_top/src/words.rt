@@ -2,7 +2,8 @@
 ghost use Rattle.std.specs.Prelude.{◌≡◌, ◌≤◌, ◌↔◌, IsTrue, IfSome, length};
 ghost use Rattle.std.specs.List.{list_all};
 ghost use Rattle.std.specs.Option.{option_map};
-ghost use Rattle.run_top.specs.Words.{number_within, IsNumber, are_names, is_binding, are_bindings, reading_of};
+ghost use Rattle.run_top.specs.Words as spec;
+ghost use Rattle.run_top.specs.Words.{number_within, IsNumber, are_names, is_binding, are_bindings, reading_of, plan_to_check};
 ghost use Rattle.run_top.specs.ReadingSeen.{reading_seen};
 
 use itoa::Buffer;
@@ -21,6 +22,27 @@ pub(crate) struct Reading<'a> {
     pub(crate) out: &'a str,
     pub(crate) workers: u32,
     pub(crate) bindings: &'a [Word],
+}
+
+/// The command that a command line is of.
+#[derive(Clone, Copy, Debug)]
+pub(crate) enum Command {
+    Run,
+    Check,
+}
+
+/// The command that the first word names. What names no command is answered by `run`, as faulty words.
+pub(crate) fn command_of(words: &[Word]) -> Command
+    ensures { result ≡ spec.command_of words.now }
+{
+    let [word, ..] = words else {
+        return Command::Run;
+    };
+    if word.text() == "check" {
+        Command::Check
+    } else {
+        Command::Run
+    }
 }
 
 /// What the words say, or `None` where they have no reading.
@@ -46,6 +68,20 @@ pub(crate) fn read_words<'a>(words: &'a [Word]) -> Option<Reading<'a>>
         workers,
         bindings,
     })
+}
+
+/// The plan of `check PLAN`, or `None` where the words aren't that.
+#[tactic(auto, unfolding(crate::specs::Words::plan_to_check))]
+pub(crate) fn read_check(words: &[Word]) -> Option<&str>
+    ensures { option_map (λ plan. plan.now) result ≡ plan_to_check words.entry.now }
+{
+    let [command, plan] = words else {
+        return None;
+    };
+    if command.text() != "check" || plan.text().is_empty() {
+        return None;
+    }
+    Some(plan.text())
 }
 
 // Both files are named, and by two names.

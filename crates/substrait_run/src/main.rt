@@ -1,4 +1,4 @@
-// The program: `run PLAN OUT WORKERS` over the files of the current folder.
+// The program: the commands of `run_top` over the files of the current folder.
 #![tactic(auto)]
 
 mod folder;

@@ -1,0 +1,167 @@
+"""Times the check of large plans beside the reading of them.
+
+    python3 bench/hostile_plans.py BINARY [FOLDER]
+
+Each plan has about 16 MB. `check` is run on it and on the same plan with a second root, which is read in the same way and
+refused before anything in it is checked: that is the time of reading. The last column is the time of both by that of reading."""
+import os
+import subprocess
+import sys
+import tempfile
+import time
+
+
+def varint(number):
+    out = bytearray()
+    while number > 127:
+        out.append(number & 127 | 128)
+        number >>= 7
+    out.append(number)
+    return bytes(out)
+
+
+def number(field, value):
+    return varint(field << 3) + varint(value)
+
+
+def message(field, *parts):
+    body = b"".join(parts)
+    return varint(field << 3 | 2) + varint(len(body)) + body
+
+
+REQUIRED = number(2, 2)
+I64 = message(7, REQUIRED)
+BOOL = message(1, REQUIRED)
+
+
+def literal(value):
+    return message(1, number(10, value))
+
+
+def column(place):
+    return message(2, message(1, message(2, number(1, place) if place else b"")), message(4))
+
+
+def call(anchor, output, *args):
+    return message(3, number(1, anchor), message(3, output), *[message(4, message(3, arg)) for arg in args])
+
+
+def table(columns):
+    names = b"".join(message(1, b"c%d" % place) for place in range(columns))
+    return message(1, message(2, names, message(2, I64 * columns)), message(7, message(1, b"t")))
+
+
+def filtered(condition, columns=1):
+    return message(2, message(2, table(columns)), message(3, condition))
+
+
+def root(rel, names):
+    return message(3, message(2, message(1, rel), *[message(2, name) for name in names]))
+
+
+URI = message(1, number(1, 1), message(2, b"/functions_boolean.yaml"))
+EMPTY_ROOT = root(table(1), [b"c0"])
+
+
+def declared(anchor, name):
+    return message(2, message(3, number(1, 1), number(2, anchor), message(3, name)))
+
+
+def declarations_and_calls(count):
+    """Each of so many declarations called once, all in one call of `and`."""
+    declared_all = b"".join(declared(anchor, b"not:bool") for anchor in range(2, count + 2)) + declared(1, b"and:bool")
+    calls = [call(anchor, BOOL, message(1, number(2, 1))) for anchor in range(2, count + 2)]
+    return URI + declared_all + root(filtered(call(1, BOOL, *calls)), [b"c0"])
+
+
+def calls_of_the_last(count):
+    """Many calls of what is declared last, behind many declarations."""
+    declared_all = b"".join(declared(anchor, b"not:bool") for anchor in range(2, count + 2)) + declared(1, b"and:bool")
+    calls = [call(count + 1, BOOL, message(1, number(2, 1))) for _ in range(count)]
+    return URI + declared_all + root(filtered(call(1, BOOL, *calls)), [b"c0"])
+
+
+def literals(count):
+    options = b"".join(message(2, literal(place)) for place in range(count))
+    return root(filtered(message(8, message(1, literal(1)), options)), [b"c0"])
+
+
+def literal_rows(count):
+    rows = b"".join(message(1, message(1, number(10, place))) for place in range(count))
+    return root(message(1, message(2, message(1, b"c0"), message(2, I64)), message(5, rows)), [b"c0"])
+
+
+def groupings(sets, each, expression):
+    def one(start):
+        return message(3, b"".join(message(1, expression(start + place)) for place in range(each)))
+
+    return root(message(4, message(2, table(1)), *[one(at * each) for at in range(sets)]), [b"c0"])
+
+
+def own_expressions(count):
+    """Grouping expressions of the aggregate's own, and one grouping that refers to each."""
+    references = message(2, b"".join(varint(place) for place in range(count)))
+    return root(message(4, message(2, table(1)), message(3, references), b"".join(message(5, literal(place)) for place in range(count))), [b"c0"])
+
+
+def wide_relations(count, columns):
+    """So many relations, each with all columns in a mapping of its own."""
+    mapping = message(1, message(2, message(1, b"".join(varint(place) for place in range(columns)))))
+    rel = table(columns)
+    for _ in range(count - 1):
+        rel = message(3, mapping, message(2, rel), number(3, 0), number(4, 1))
+    return rel
+
+
+def wide(count, columns):
+    side = 40
+    inputs = [wide_relations(side, columns) for _ in range(count // side)]
+    return root(message(8, *[message(2, one) for one in inputs], number(3, 6)), [b"c%d" % place for place in range(columns)])
+
+
+def references_to_columns(count):
+    options = b"".join(message(2, column(0)) for _ in range(count))
+    return root(filtered(message(8, message(1, column(0)), options)), [b"c0"])
+
+
+PLANS = {
+    "declarations, each called once": lambda: declarations_and_calls(260_000),
+    "calls of the last declaration": lambda: calls_of_the_last(260_000),
+    "literals": lambda: literals(1_400_000),
+    "rows of a literal": lambda: literal_rows(1_700_000),
+    "references to columns": lambda: references_to_columns(1_000_000),
+    "grouping expressions of one set": lambda: groupings(1, 1_400_000, literal),
+    "grouping expressions of 64 sets": lambda: groupings(64, 20_000, literal),
+    "equal grouping expressions of 64 sets": lambda: groupings(64, 20_000, lambda place: literal(place % 1_000)),
+    "own grouping expressions": lambda: own_expressions(1_100_000),
+    "999 relations of 1,024 columns": lambda: wide(960, 1_024),
+}
+
+
+def seconds(binary, path):
+    best, line = None, ""
+    for _ in range(3):
+        start = time.perf_counter()
+        done = subprocess.run([binary, "check", path], capture_output=True)
+        taken = time.perf_counter() - start
+        best, line = taken if best is None else min(best, taken), done.stdout.decode().strip()
+    return best, line
+
+
+def main():
+    binary = sys.argv[1]
+    with tempfile.TemporaryDirectory() as own:
+        folder = sys.argv[2] if len(sys.argv) > 2 else own
+        for name, make in PLANS.items():
+            plan = make()
+            path, twin = os.path.join(folder, "plan"), os.path.join(folder, "twin")
+            with open(path, "wb") as file:
+                file.write(plan)
+            with open(twin, "wb") as file:
+                file.write(EMPTY_ROOT + plan)
+            both, line = seconds(binary, path)
+            reading, refused = seconds(binary, twin)
+            print(f"{name}: {len(plan) / 1e6:.1f} MB, {line}; both {both:.2f} s, reading {reading:.2f} s ({refused}), {both / reading:.2f} times")
+
+
+main()

@@ -1,0 +1,11 @@
+use Rattle.std.proofs.Common.{◌≤◌, rules as given, subst, length, arith}
+use Rattle.plan_verdict.specs.Checking.{Comes}
+use Rattle.plan_verdict.specs.Rels.{over}
+use Rattle.plan_verdict.specs.Verdict.{checked_grouping}
+use Rattle.check_groups.proofs.GroupLaws.{several}
+use Rattle.check_groups.proofs.groups.written_out.Goals as goal
+
+pub returns-in_default : goal.returns-in_default
+returns-in_default g c =
+    let long : 2 ≤ length c.args.groupings.now = search (given, arith) in
+    subst (Comes c.several_written_out.result) (several (over c.args.number c.args.columns.now) (checked_grouping c.args.terms.now) c.args.groupings.now c.args.progress long) c.several_written_out.ensures

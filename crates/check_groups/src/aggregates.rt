@@ -1,0 +1,101 @@
+// Aggregates (Substrait `AggregateRel`).
+ghost use Rattle.std.specs.Prelude.{map};
+ghost use Rattle.std.specs.Option.{option_map};
+ghost use Rattle.plan_verdict.specs.Aggregates as spec;
+ghost use Rattle.plan_verdict.specs.Checking.{Comes, in_order};
+ghost use Rattle.plan_verdict.specs.Rels.{over};
+ghost use Rattle.plan_verdict.specs.Verdict.{checked_expr, checked_grouping, checked_measure, checked_rel};
+
+use crate::aggregate_columns::aggregate_of;
+use crate::groups::groups_in;
+use crate::measure::measure;
+use check_exprs::{Deeper, Terms, each_of, input, part, refuse};
+use plan_leaves::{Boxed, Items, RelCommon};
+use plan_raw::{Grouping, Measure, RawExpr, RawRel};
+use plan_typed::{Rel, SetMeasure};
+use plan_verdict::{CheckError, Progress, Rule};
+use sub_types::Ty;
+
+/// The most groupings of an aggregate.
+const MAX_GROUPINGS: usize = 64;
+
+/// The input, the groupings and the measures.
+pub fn aggregate<D: Deeper>(
+    deeper: &D,
+    terms: &Terms<'_>,
+    progress: Progress,
+    number: u32,
+    common: &Option<RelCommon>,
+    written: &Option<Boxed<RawRel>>,
+    groupings: &[Grouping],
+    measures: &[Measure],
+    expressions: &[RawExpr],
+) -> Result<(Rel, Progress), CheckError>
+    requires { D.is_ready deeper.now }
+    ensures { Comes result (spec.aggregate number common.now (option_map (checked_rel terms.now) written.now) (map (checked_grouping terms.now) groupings.now) (map (checked_measure terms.now) measures.now) (map (checked_expr terms.now) expressions.now) progress) }
+{
+    let (rel, progress) = input(deeper, terms, progress, number, written)?;
+    if groupings.len() > MAX_GROUPINGS {
+        return refuse(number, Rule::TooMany);
+    }
+    aggregate_over(
+        deeper,
+        terms,
+        progress,
+        number,
+        common,
+        rel,
+        groupings,
+        measures,
+        expressions,
+    )
+}
+
+/// The groupings and the measures over this input.
+fn aggregate_over<D: Deeper>(
+    deeper: &D,
+    terms: &Terms<'_>,
+    progress: Progress,
+    number: u32,
+    common: &Option<RelCommon>,
+    rel: Rel,
+    groupings: &[Grouping],
+    measures: &[Measure],
+    expressions: &[RawExpr],
+) -> Result<(Rel, Progress), CheckError>
+    requires { D.is_ready deeper.now }
+    ensures { Comes result (spec.aggregate_over number common.now rel (map (checked_grouping terms.now) groupings.now) (map (checked_measure terms.now) measures.now) (map (checked_expr terms.now) expressions.now) progress) }
+{
+    let columns = rel.columns.as_slice();
+    let (found, progress) = groups_in(
+        deeper,
+        terms,
+        progress,
+        number,
+        columns,
+        expressions,
+        groupings,
+    )?;
+    let columns = rel.columns.as_slice();
+    let (checked, progress) = each_measure(deeper, terms, progress, number, columns, measures)?;
+    part(
+        aggregate_of(terms.alloc(), number, common, rel, found, checked),
+        progress,
+    )
+}
+
+fn each_measure<D: Deeper>(
+    deeper: &D,
+    terms: &Terms<'_>,
+    progress: Progress,
+    number: u32,
+    columns: &[Ty],
+    measures: &[Measure],
+) -> Result<(Items<SetMeasure>, Progress), CheckError>
+    requires { D.is_ready deeper.now }
+    ensures { Comes result (in_order (map (λ one. one (over number columns.now)) (map (checked_measure terms.now) measures.now)) progress) }
+{
+    each_of(terms.alloc(), progress, measures, |progress, one| {
+        measure(deeper, terms, progress, number, columns, one)
+    })
+}
