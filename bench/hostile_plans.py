@@ -35,7 +35,7 @@ BOOL = message(1, REQUIRED)
 
 
 def literal(value):
-    return message(1, number(10, value))
+    return message(1, number(7, value))
 
 
 def column(place):
@@ -48,7 +48,7 @@ def call(anchor, output, *args):
 
 def table(columns):
     names = b"".join(message(1, b"c%d" % place) for place in range(columns))
-    return message(1, message(2, names, message(2, I64 * columns)), message(7, message(1, b"t")))
+    return message(1, message(2, names, message(2, message(1, I64) * columns)), message(7, message(1, b"t")))
 
 
 def filtered(condition, columns=1):
@@ -70,14 +70,14 @@ def declared(anchor, name):
 def declarations_and_calls(count):
     """Each of so many declarations called once, all in one call of `and`."""
     declared_all = b"".join(declared(anchor, b"not:bool") for anchor in range(2, count + 2)) + declared(1, b"and:bool")
-    calls = [call(anchor, BOOL, message(1, number(2, 1))) for anchor in range(2, count + 2)]
+    calls = [call(anchor, BOOL, message(1, number(1, 1))) for anchor in range(2, count + 2)]
     return URI + declared_all + root(filtered(call(1, BOOL, *calls)), [b"c0"])
 
 
 def calls_of_the_last(count):
     """Many calls of what is declared last, behind many declarations."""
     declared_all = b"".join(declared(anchor, b"not:bool") for anchor in range(2, count + 2)) + declared(1, b"and:bool")
-    calls = [call(count + 1, BOOL, message(1, number(2, 1))) for _ in range(count)]
+    calls = [call(count + 1, BOOL, message(1, number(1, 1))) for _ in range(count)]
     return URI + declared_all + root(filtered(call(1, BOOL, *calls)), [b"c0"])
 
 
@@ -87,8 +87,8 @@ def literals(count):
 
 
 def literal_rows(count):
-    rows = b"".join(message(1, message(1, number(10, place))) for place in range(count))
-    return root(message(1, message(2, message(1, b"c0"), message(2, I64)), message(5, rows)), [b"c0"])
+    rows = b"".join(message(1, message(1, number(7, place))) for place in range(count))
+    return root(message(1, message(2, message(1, b"c0"), message(2, message(1, I64))), message(5, rows)), [b"c0"])
 
 
 def groupings(sets, each, expression):
@@ -164,4 +164,5 @@ def main():
             print(f"{name}: {len(plan) / 1e6:.1f} MB, {line}; both {both:.2f} s, reading {reading:.2f} s ({refused}), {both / reading:.2f} times")
 
 
-main()
+if __name__ == "__main__":
+    main()
