@@ -1,2 +1,3 @@
 mod RowLaws
 mod StepLaws
+mod TruthLaws

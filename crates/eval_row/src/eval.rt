@@ -133,7 +133,7 @@ fn first_truth<R: RowValues>(
     args: &[Expr],
     row: &R,
 ) -> Result<Value, EvalError>
-    ensures { Gives result (ends_at end false (worth args.now (R.as_row row.now))) }
+    ensures { Gives result (ends_at end (worth args.now (R.as_row row.now))) }
 {
     let mut seen_null = false;
     for arg in args {

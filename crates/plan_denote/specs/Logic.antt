@@ -8,22 +8,31 @@ use Rattle.sub_types.specs.declared.value.Value.TheVariants as values
 use Rattle.plan_denote.specs.Computed.{Computed, ◌>>=◌, truth, null, is_null, is_true}
 use Rattle.plan_denote.specs.Order.{value_cmp, is_same}
 
--- what follows the value of one argument of `and` or `or`: the truth value that ends it, or the rest, in which a null may have been seen
-abbrev pub after : Bool → Bool → Value → (Bool → Computed) → Computed
-after end seen_null (values.Bool test) rest = if beq test end then truth end else rest seen_null
-after end seen_null _ rest = rest true
+-- a value is this truth value
+abbrev pub is_truth : Bool → Value → Bool
+is_truth test (values.Bool found) = beq found test
+is_truth test _ = false
 
--- the arguments in order: the first that is `end` ends it; else it is null where one is null, and else the other truth value
-abbrev pub ends_at : Bool → Bool → List Computed → Computed
-ends_at end seen_null [] = if seen_null then null else truth (not end)
-ends_at end seen_null (arg ∷ args) = arg >>= (λ value. after end seen_null value (λ seen. ends_at end seen args))
+-- two truth values, null among them: `end` where one is `end`, the other truth value where both are that, and else null
+abbrev pub three_valued : Bool → Value → Value → Value
+three_valued end a b =
+    if is_truth end a || is_truth end b then values.Bool end
+    else if is_truth (not end) a && is_truth (not end) b then values.Bool (not end)
+    else values.Null
+
+-- each argument with the rest, up to the first that is `end`; the other truth value where there is none
+abbrev pub ends_at : Bool → List Computed → Computed
+ends_at end [] = truth (not end)
+ends_at end (arg ∷ args) = do
+  value ← arg
+  if is_truth end value then truth end else (ends_at end args >>= (λ rest. Ok (three_valued end value rest)))
 
 -- `and` ends at the first false, `or` at the first true
 abbrev pub and_of : List Computed → Computed
-and_of = ends_at false false
+and_of = ends_at false
 
 abbrev pub or_of : List Computed → Computed
-or_of = ends_at true false
+or_of = ends_at true
 
 abbrev pub not_of : Value → Computed
 not_of (values.Bool test) = truth (not test)

@@ -1,12 +1,13 @@
 -- Each node, by what its parts are worth.
-use Rattle.std.proofs.Common.{◌≡◌, ◌∙◌, ap, sym, subst, Option, Ok, Err, rules}
+use Rattle.std.proofs.Common.{◌≡◌, ◌∙◌, ap, sym, subst, true, Option, Ok, Err, rules}
 use Rattle.sub_types.specs.declared.value.Value.{Value}
 use Rattle.plan_denote.specs.Computed.{Computed, ◌>>=◌}
 use Rattle.plan_denote.specs.Eval.{eval}
 use Rattle.plan_denote.specs.Logic.{first_equal, first_true}
 use Rattle.eval_values.specs.Gives.{Gives}
-use Rattle.eval_row.specs.Lists.{arms_at, choices_at, Picks}
+use Rattle.eval_row.specs.Lists.{arms_at, choices_at, compared_to, worth, Picks}
 use Rattle.eval_row.proofs.StepLaws.{picks_fault}
+use Rattle.eval_row.proofs.TruthLaws.{walked-all}
 use Rattle.plan_denote.proofs.EvalLaws.{eval-Const, eval-Column, eval-Call, eval-If, eval-Switch, eval-OneOf, eval-Cast}
 use Rattle.eval_row.proofs.eval.+eval.Goals as goal
 
@@ -98,3 +99,9 @@ eval_expr-returns-in-Switch g t c =
     ∙ ap (λ (first : Computed). first >>= (λ value. first_equal value (choices_at c.in-Switch.arms row) other)) one ∙ ap (λ arms. first_equal subject (choices_at arms row) other) (sym c.as_slice-in-Switch.ensures) ∙ picked in
     let found : Gives c.eval_expr-in-None-2.result other = search rules in
     subst (λ (computed : Computed). Gives c.eval_expr-in-None-2.result computed) (sym whole) found
+
+pub first_truth-loop-arg-init : goal.first_truth-loop-arg-init
+first_truth-loop-arg-init g t c = walked-all c.args.end (worth c.args.args.now (g.R.RowValues.as_row c.args.row.now))
+
+pub is_one_of-loop-option-init : goal.is_one_of-loop-option-init
+is_one_of-loop-option-init g t c = walked-all true (compared_to c.args.value.now (worth c.args.options.now (g.R.RowValues.as_row c.args.row.now)))

@@ -2,6 +2,7 @@
 use Rattle.std.proofs.Common.{◌≡◌, drop, false, true}
 use Rattle.eval_row.specs.Lists.{worth, arms_at, choices_at}
 use Rattle.eval_row.proofs.StepLaws.{prefixed}
+use Rattle.eval_row.proofs.TruthLaws.{walked}
 use Rattle.plan_denote.specs.Computed.{Computed, collect}
 use Rattle.plan_denote.specs.Logic.{coalesce, ends_at, first_equal, first_true}
 use Rattle.eval_row.specs.Lists.{compared_to}
@@ -9,14 +10,14 @@ use Rattle.eval_row.proofs.eval.+eval.Given as goal
 
 abbrev pub invariant-first_truth-loop-arg : goal.invariant-first_truth-loop-arg
 invariant-first_truth-loop-arg g l =
-    ends_at l.end l.seen_null (worth (drop l.arg-index l.args) (g.R.RowValues.as_row l.row)) ≡ ends_at l.end false (worth l.args (g.R.RowValues.as_row l.row))
+    walked l.end l.seen_null (worth (drop l.arg-index l.args) (g.R.RowValues.as_row l.row)) ≡ ends_at l.end (worth l.args (g.R.RowValues.as_row l.row))
 
 abbrev pub invariant-first_value-loop-arg : goal.invariant-first_value-loop-arg
 invariant-first_value-loop-arg g l = coalesce (worth (drop l.arg-index l.args) (g.R.RowValues.as_row l.row)) ≡ coalesce (worth l.args (g.R.RowValues.as_row l.row))
 
 abbrev pub invariant-is_one_of-loop-option : goal.invariant-is_one_of-loop-option
 invariant-is_one_of-loop-option g l =
-    ends_at true l.seen_null (compared_to l.value (worth (drop l.option-index l.options) (g.R.RowValues.as_row l.row))) ≡ ends_at true false (compared_to l.value (worth l.options (g.R.RowValues.as_row l.row)))
+    walked true l.seen_null (compared_to l.value (worth (drop l.option-index l.options) (g.R.RowValues.as_row l.row))) ≡ ends_at true (compared_to l.value (worth l.options (g.R.RowValues.as_row l.row)))
 
 abbrev pub invariant-value_of_equal-loop-arm : goal.invariant-value_of_equal-loop-arm
 invariant-value_of_equal-loop-arm g l =
