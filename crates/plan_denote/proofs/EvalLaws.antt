@@ -10,7 +10,7 @@ use Rattle.plan_typed.specs.declared.expr.Expr.TheVariants as e
 use Rattle.plan_typed.specs.declared.expr.Func.{Func}
 use Rattle.plan_typed.specs.declared.expr.Overflow.{Overflow}
 use Rattle.plan_typed.specs.Types.{ty_of, ty_in}
-use Rattle.plan_denote.specs.Computed.{Row, Computed, ◌>>=◌}
+use Rattle.plan_denote.specs.Computed.{Row, ◌>>=◌}
 use Rattle.plan_denote.specs.Calls.{called}
 use Rattle.plan_denote.specs.Casts.{cast, or_null}
 use Rattle.plan_denote.specs.Logic.{first_true, first_equal, one_of}

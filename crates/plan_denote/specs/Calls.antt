@@ -1,4 +1,4 @@
--- What a call is worth, by its arguments' values.
+-- What a call is worth, by what its arguments are worth. The last clauses close the definitions: no well-typed plan reaches them.
 use Rattle.std.specs.Prelude.{List, [], ◌∷◌, not}
 use Rattle.std.specs.Ordering.{is_eq, is_ne, is_lt, is_le, is_gt, is_ge}
 use Rattle.sub_types.specs.declared.kind.Kind.{Kind}

@@ -1,7 +1,6 @@
--- Casts (Substrait `Cast`).
+-- Casts (Substrait `Cast`). The last clause of `converted` closes it: no well-typed plan reaches it.
 use Rattle.std.specs.Prelude.{ℕ, ℤ, pos, neg_ℤ, ◌*ℤ◌, List, [], ◌∷◌, Bool, true, ◌&&◌, Option, Some, None, Ok, Err, ◌==◌, nat_le, if◌then◌else◌}
 use Rattle.std.specs.List.{list_all}
-use Rattle.std.specs.Option.{option_map}
 use Rattle.std.specs.Fmt.{signed_decimal}
 use Rattle.std.specs.Str.Parse.{digits_value}
 use Rattle.sub_types.specs.OptionSteps.{when}
@@ -30,7 +29,10 @@ unsigned_of (digit ∷ digits) = when (list_all is_digit (digit ∷ digits)) (So
 
 -- the number that a text writes: perhaps a `-`, and then digits
 abbrev pub number_of : List ℕ → Option ℤ
-number_of (byte ∷ rest) = if byte == 45 then option_map (λ n. neg_ℤ (pos n)) (unsigned_of rest) else option_map pos (unsigned_of (byte ∷ rest))
+number_of (byte ∷ rest) =
+    if byte == 45
+    then elim (unsigned_of rest) [ Some n ↦ Some (neg_ℤ (pos n)) | None ↦ None ]
+    else elim (unsigned_of (byte ∷ rest)) [ Some n ↦ Some (pos n) | None ↦ None ]
 number_of [] = None
 
 -- a number of a kind of whole numbers, if it fits

@@ -16,7 +16,8 @@ use Rattle.plan_denote.specs.Whole.{whole}
 abbrev pub MAX_DIGITS : ℕ
 MAX_DIGITS = 38
 
--- the number of a decimal, of at most the precision's digits, or else this fault
+-- the number of a decimal, of at most the precision's digits (which are 38 at most), or else this fault; no well-typed plan
+-- reaches the last clause
 abbrev pub decimal_or : FaultKind → Kind → ℤ → Computed
 decimal_or fault (kinds.Decimal precision scale) n = if nat_lt (unsigned_abs n) (10 ^ min precision MAX_DIGITS) then Ok (values.Dec n) else Err fault
 decimal_or fault _ n = null
@@ -25,7 +26,7 @@ decimal_or fault _ n = null
 abbrev pub rescaled : ℕ → ℕ → ℤ → ℤ
 rescaled from to n = n *ℤ pos (10 ^ (to - from))
 
--- a sum or a difference; decimals are brought to the result's scale first
+-- a sum or a difference of arguments of the given kinds: whole numbers as they are, decimals brought to the result's scale first
 abbrev pub combined : (ℤ → ℤ → ℤ) → Kind → Overflow → List Kind → Value → Value → Computed
 combined operation kind mode given (values.Int a) (values.Int b) = whole kind mode (operation a b)
 combined operation kind mode (first ∷ second ∷ []) (values.Dec a) (values.Dec b) =

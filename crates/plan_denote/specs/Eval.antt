@@ -8,7 +8,7 @@ use Rattle.plan_denote.specs.Logic.{first_true, first_equal, one_of}
 use Rattle.plan_denote.specs.Calls.{called}
 use Rattle.plan_denote.specs.Casts.{cast, or_null}
 
--- an expression's type, and what it is worth at each row
+-- what an expression is worth at each row, and its type, since calls and casts ask for the kinds of what they take
 pub record Meaning : Type 0 where
   pub ty : Ty
   pub at : Row → Computed

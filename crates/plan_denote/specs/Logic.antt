@@ -1,4 +1,5 @@
--- The functions of functions_boolean.yaml and functions_comparison.yaml, and what chooses among values.
+-- The functions of functions_boolean.yaml and functions_comparison.yaml (is_null, is_not_null and is_not_distinct_from stand in
+-- `Calls`), and what chooses among values.
 use Rattle.std.specs.Prelude.{List, [], ◌∷◌, Bool, true, false, not, ◌&&◌, ◌||◌, map, Ok, if◌then◌else◌}
 use Rattle.std.proofs.Math.Bool.{beq}
 use Rattle.std.specs.declared.cmp.Ordering.{Ordering}
@@ -13,14 +14,14 @@ abbrev pub is_truth : Bool → Value → Bool
 is_truth test (values.Bool found) = beq found test
 is_truth test _ = false
 
--- two truth values, null among them: `end` where one is `end`, the other truth value where both are that, and else null
+-- two values, each true, false or null: `end` where one is `end`, the other truth value where both are that, and else null
 abbrev pub three_valued : Bool → Value → Value → Value
 three_valued end a b =
     if is_truth end a || is_truth end b then values.Bool end
     else if is_truth (not end) a && is_truth (not end) b then values.Bool (not end)
     else values.Null
 
--- each argument with the rest, up to the first that is `end`; the other truth value where there is none
+-- the arguments from left to right up to the first that is `end`, put together by the three-valued table; no arguments give the other truth value
 abbrev pub ends_at : Bool → List Computed → Computed
 ends_at end [] = truth (not end)
 ends_at end (arg ∷ args) = do
@@ -46,11 +47,11 @@ xor_of _ _ = null
 abbrev pub compared : (Ordering → Bool) → Value → Value → Computed
 compared test a b = if is_null a || is_null b then null else truth (test (value_cmp a b))
 
--- whether the first is at least the second and at most the third
+-- whether the first is at least the second and at most the third, null where one of them is null
 abbrev pub between : Value → Value → Value → Computed
 between value low high = if is_null value || is_null low || is_null high then null else truth (not (is_lt (value_cmp value low)) && not (is_gt (value_cmp value high)))
 
--- the first value that isn't null
+-- the first value that isn't null, null where there is none
 abbrev pub coalesce : List Computed → Computed
 coalesce [] = null
 coalesce (arg ∷ args) = arg >>= (λ value. if is_null value then coalesce args else Ok value)

@@ -1,5 +1,5 @@
--- The order of values: false below true, whole numbers and decimals by size, texts and binaries by bytes. Null comes first, and
--- values of different kinds, which no comparison is given, in the order of their kinds.
+-- The order of values: false below true, whole numbers and decimals by size, texts and binaries by bytes. Null comes first (a
+-- sort places nulls by its direction before it asks this order), and values of different kinds, which no comparison is given, in the order of their kinds.
 use Rattle.std.specs.Prelude.{ℕ, ℤ, pos, List, [], Bool, false}
 use Rattle.std.specs.Cmp.Lexicographic.{slice_cmp}
 use Rattle.std.specs.declared.cmp.Ordering.{Ordering}
@@ -15,7 +15,7 @@ kind_place (values.Int _) = 2
 kind_place (values.Dec _) = 3
 kind_place (values.Bytes _) = 4
 
--- the truth value, the number and the bytes in a value, and what is least where it has none
+-- the truth value, the number and the bytes in a value, and false, 0 or no bytes where it has none
 abbrev pub truth_in : Value → Bool
 truth_in (values.Bool test) = test
 truth_in _ = false

@@ -9,10 +9,11 @@ use Rattle.sub_types.specs.declared.value.Value.TheVariants as values
 use Rattle.plan_denote.specs.Computed.{Computed, null, truth, unless_null}
 use Rattle.plan_denote.specs.Order.{bytes_in}
 
--- the texts one after the other, if the whole isn't too long
+-- a text of these bytes, unless it is too long
 abbrev pub limited : List ℕ → Computed
 limited bytes = if nat_le (length bytes) MAX_TEXT then Ok (values.Bytes bytes) else Err faults.TextTooLong
 
+-- the texts one after the other; null where one is null
 abbrev pub concatenated : List Value → Computed
 concatenated texts = unless_null texts (limited (concat (map bytes_in texts)))
 
@@ -20,7 +21,7 @@ concatenated texts = unless_null texts (limited (concat (map bytes_in texts)))
 abbrev pub if_text : List ℕ → Computed → Computed
 if_text bytes computed = if is_utf8 bytes then computed else null
 
--- the characters from a place on, counted from 1: so many, or all
+-- the characters behind the first so many: all of them, or at most this number
 abbrev pub part_of : List ℕ → ℕ → Option ℕ → Computed
 part_of characters from None = Ok (values.Bytes (encode_utf8_all (drop from characters)))
 part_of characters from (Some count) = Ok (values.Bytes (encode_utf8_all (take count (drop from characters))))
@@ -68,7 +69,7 @@ abbrev pub is_like : List ℕ → List ℕ → Bool
 is_like [] text = length text == 0
 is_like (sign ∷ pattern) text = if sign == PERCENT then some_end (is_like pattern) text else one_of sign (is_like pattern) text
 
--- the same of texts by their bytes
+-- `is_like` of the characters; the text comes first here, as in the other tests
 abbrev pub like : List ℕ → List ℕ → Bool
 like text pattern = is_like (chars pattern) (chars text)
 

@@ -1,4 +1,5 @@
--- The functions of functions_arithmetic.yaml: exact whole numbers, and then the range of the result's kind.
+-- The functions of functions_arithmetic.yaml: exact whole numbers, and then the range of the result's kind. add, subtract and
+-- multiply stand in `Decimals`, since they take decimals too.
 use Rattle.std.specs.Prelude.{ℕ, ◌^◌, ℤ, pos, negsuc, neg_ℤ, Bool, false, Ok, Err, nat_lt, int_div, int_rem, unsigned_abs, ◌==◌, if◌then◌else◌}
 use Rattle.std.specs.Int.{w8, w16, w32, w64, saturate_to_bits, int_wrap}
 use Rattle.sub_types.specs.declared.fault.FaultKind.TheVariants as faults
@@ -10,7 +11,7 @@ use Rattle.plan_typed.specs.declared.expr.Overflow.{Overflow}
 use Rattle.plan_typed.specs.declared.expr.Overflow.TheVariants as modes
 use Rattle.plan_denote.specs.Computed.{Computed, null}
 
--- how many bits a number of a kind of whole numbers has beside its sign's
+-- how many bits a number of a kind of whole numbers has beside its sign's; the last clause is for I64 and Timestamp
 abbrev pub bits_of : Kind → ℕ
 bits_of kinds.I8 = 7
 bits_of kinds.I16 = 15
@@ -18,7 +19,7 @@ bits_of kinds.I32 = 31
 bits_of kinds.Date = 31
 bits_of _ = 63
 
--- what is left of a number in the bits of the kind, in two's complement
+-- what is left of a number in the bits of the kind, in two's complement; the last clause is for I64 and Timestamp
 abbrev pub wrapped : Kind → ℤ → ℤ
 wrapped kinds.I8 n = int_wrap w8 n
 wrapped kinds.I16 n = int_wrap w16 n
@@ -26,7 +27,7 @@ wrapped kinds.I32 n = int_wrap w32 n
 wrapped kinds.Date n = int_wrap w32 n
 wrapped _ n = int_wrap w64 n
 
--- from minus 2 to these bits up to below it
+-- at least minus 2 to the power of the bits, and less than 2 to that power
 abbrev pub is_within : ℕ → ℤ → Bool
 is_within bits (pos n) = nat_lt n (2 ^ bits)
 is_within bits (negsuc n) = nat_lt n (2 ^ bits)
