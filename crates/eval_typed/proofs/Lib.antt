@@ -1,0 +1,10 @@
+pub mod Fit
+pub mod KindLaws
+pub mod TableLaws
+pub mod RowLaws
+pub mod LogicLaws
+pub mod NumberLaws
+pub mod TextLaws
+pub mod CastLaws
+pub mod CallLaws
+pub mod Law
