@@ -1,5 +1,5 @@
 -- Each loop: what is left gives what the whole list gives.
-use Rattle.std.proofs.Common.{◌≡◌, drop, false, true}
+use Rattle.std.proofs.Common.{◌≡◌, drop, true}
 use Rattle.eval_row.specs.Lists.{worth, arms_at, choices_at}
 use Rattle.eval_row.proofs.StepLaws.{prefixed}
 use Rattle.eval_row.proofs.TruthLaws.{walked}
