@@ -2,4 +2,5 @@ pub mod PieceLaws
 pub mod NumberLaws
 pub mod KeyLevels
 pub mod KeyLaws
+pub mod FirstLaws
 pub mod PlaceLaws

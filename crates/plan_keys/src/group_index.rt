@@ -1,15 +1,13 @@
 // The groups of an aggregate, and where the first of each expression stands.
-ghost use Rattle.std.specs.Prelude.{◌≡◌, ◌++◌, ◌∷◌, [], None, IfOk, OnOk, OnErr, false, length, map, position};
+ghost use Rattle.std.specs.Prelude.{◌≡◌, ◌++◌, ◌∷◌, [], IfOk, OnOk, OnErr, length, map, position};
 ghost use Rattle.plan_verdict.specs.Aggregates.{is_same_group};
-ghost use Rattle.plan_keys.specs.Keys.{expr_key};
-ghost use Rattle.plan_keys.specs.Places.{place_at, IsIndex};
 
+use crate::first_places::FirstPlaces;
 use crate::keys::key_of;
 use plan_leaves::Items;
 use plan_typed::Expr;
 use plan_verdict::Group;
 use std::alloc::Global;
-use std::collections::BTreeMap;
 use std::marker::Model;
 use sub_types::NoMemory;
 
@@ -18,8 +16,7 @@ use sub_types::NoMemory;
 pub struct GroupIndex {
     alloc: Global,
     groups: Items<Group>,
-    /// The first place of a group without a subquery, by its expression's key.
-    places: BTreeMap<Vec<i128>, usize>,
+    places: FirstPlaces,
 }
 
 impl Model for GroupIndex {
@@ -47,7 +44,7 @@ impl GroupIndex {
         GroupIndex {
             alloc,
             groups: Items::new(alloc),
-            places: BTreeMap::new(alloc),
+            places: FirstPlaces::new(alloc),
         }
     }
 
@@ -65,7 +62,10 @@ impl GroupIndex {
             return Ok(None);
         }
         let key = key_of(self.alloc, &group.expr)?;
-        Ok(first_place(&self.places, &key))
+        Ok(
+            self.places
+                .place_of(self.groups.as_slice(), &group.expr, &key),
+        )
     }
 
     /// Adds a group at the end. Where its expression stands already, the first place stays the one that is found.
@@ -73,14 +73,14 @@ impl GroupIndex {
         ensures ok { OnOk result (self.new ≡ self.old ++ group ∷ []) }
         ensures err { OnErr result (self.new ≡ self.old) }
     {
-        if group.holds_subquery {
-            return self.groups.push(group);
+        self.places.reserve(self.alloc, self.groups.as_slice())?;
+        let place = self.groups.len();
+        self.groups.push(group)?;
+        let added = self.places.add(self.alloc, self.groups.as_slice(), place);
+        if added.is_err() {
+            self.groups.pop();
         }
-        let key = key_of(self.alloc, &group.expr)?;
-        if first_place(&self.places, &key).is_some() {
-            return self.groups.push(group);
-        }
-        push_first(&mut self.groups, &mut self.places, key, group)
+        added
     }
 
     /// The expressions of the groups.
@@ -94,37 +94,6 @@ impl GroupIndex {
         } = self;
         exprs_of(alloc, groups)
     }
-}
-
-/// The place that is kept under a key.
-fn first_place(places: &BTreeMap<Vec<i128>, usize>, key: &[i128]) -> Option<usize>
-    ensures { result ≡ place_at places.now key.now }
-{
-    places.get(key).copied()
-}
-
-/// Adds the first group with a key.
-fn push_first(
-    groups: &mut Items<Group>,
-    places: &mut BTreeMap<Vec<i128>, usize>,
-    key: Vec<i128>,
-    group: Group,
-) -> Result<(), NoMemory>
-    requires index { IsIndex groups.old places.old }
-    requires subquery { group.holds_subquery ≡ false }
-    requires key { key.items ≡ expr_key group.expr }
-    requires first { place_at places.old key.items ≡ None }
-    ensures ok { OnOk result (groups.new ≡ groups.old ++ group ∷ []) }
-    ensures err { OnErr result (groups.new ≡ groups.old) }
-    ensures index { IsIndex groups.new places.new }
-{
-    let place = groups.len();
-    groups.push(group)?;
-    if places.insert(key, place).is_err() {
-        groups.pop();
-        return Err(NoMemory);
-    }
-    Ok(())
 }
 
 /// The expressions of groups.

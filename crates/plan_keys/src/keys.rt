@@ -9,11 +9,14 @@ use plan_typed::{Expr, Func, Overflow};
 use std::alloc::Global;
 use sub_types::{NoMemory, Value};
 
+/// The room that is taken for a key at first, enough for a literal or a column.
+const SHORT_KEY: usize = 8;
+
 /// The expression written out as whole numbers. Different expressions have different keys.
 pub fn key_of(alloc: Global, expr: &Expr) -> Result<Vec<i128>, NoMemory>
     ensures { IfOk result (λ key. key.items ≡ spec.expr_key expr.now) }
 {
-    let mut key = Vec::new(alloc);
+    let mut key = Vec::with_capacity(alloc, SHORT_KEY)?;
     push_expr(&mut key, expr)?;
     Ok(key)
 }

@@ -1,8 +1,10 @@
-//! The groups of an aggregate, found by their expressions in logarithmic time. Each expression has a key, the expression
-//! written out as whole numbers, and an ordered map keeps the first place under each key: no plan can make it slow, as it
-//! could by keys of one hash. Its meaning stands in `specs/`.
+//! The groups of an aggregate, found by their expressions. Each expression has a key, the expression written out as whole
+//! numbers, and the first place of each key is kept: most are found at once by a digest of the key, the others in
+//! logarithmic time, so that no plan can make it slow. Its meaning stands in `specs/`.
 #![tactic(auto)]
 
+mod digests;
+mod first_places;
 mod group_index;
 mod keys;
 mod laws;

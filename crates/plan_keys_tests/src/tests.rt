@@ -33,18 +33,25 @@ fn sum(alloc: Global, a: u32, b: u32, holds_subquery: bool) -> Result<Group, NoM
     })
 }
 
-// Whether each of so many columns is found where it was added, and the next is not.
-fn finds_columns(alloc: Global, count: u32) -> Result<bool, NoMemory> {
+// Whether each of so many columns and sums is found where it was added, and the next ones are not.
+fn finds_each(alloc: Global, count: u32) -> Result<bool, NoMemory> {
     let mut groups = GroupIndex::new(alloc);
     for index in 0..count {
         groups.push(column(index))?;
+        groups.push(sum(alloc, index, 0, false)?)?;
     }
     for index in 0..count {
-        if groups.place_of(&column(index))? != Some(index as usize) {
+        let place = 2 * index as usize;
+        if groups.place_of(&column(index))? != Some(place)
+            || groups.place_of(&sum(alloc, index, 0, false)?)? != Some(place + 1)
+        {
             return Ok(false);
         }
     }
-    Ok(groups.place_of(&column(count))?.is_none())
+    Ok(
+        groups.place_of(&column(count))?.is_none()
+            && groups.place_of(&sum(alloc, count, 0, false)?)?.is_none(),
+    )
 }
 
 // Whether sums are found by their arguments in order, and those with a subquery aren't.
@@ -61,9 +68,10 @@ fn finds_sums(alloc: Global) -> Result<bool, NoMemory> {
     Ok(is_found && groups.len() == 4 && groups.into_exprs()?.len() == 4)
 }
 
+// Among so many, some have the slot of another.
 #[test]
-fn columns_are_found(rt: HostRuntime) {
-    assert!(rt; matches!(finds_columns(rt.alloc(), 2000), Ok(true)));
+fn each_is_found(rt: HostRuntime) {
+    assert!(rt; matches!(finds_each(rt.alloc(), 2000), Ok(true)));
 }
 
 #[test]
