@@ -1,3 +1,1 @@
 pub mod MadeLaws
-pub mod SortLaws
-pub mod SourceLaws

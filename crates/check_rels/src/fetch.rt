@@ -1,13 +1,15 @@
 // Fetches (Substrait `FetchRel`).
 ghost use Rattle.std.specs.Prelude.{◌≡◌, Some};
 ghost use Rattle.std.specs.Option.{option_map};
+ghost use Rattle.check_rels.specs.Inputs as inputs;
 ghost use Rattle.plan_verdict.specs.Amounts as amounts;
 ghost use Rattle.plan_verdict.specs.Checking.{Agrees, Comes};
 ghost use Rattle.plan_verdict.specs.Rels as spec;
 ghost use Rattle.plan_verdict.specs.Verdict.{checked_count, checked_expr, checked_offset, checked_rel};
 
+use crate::held::beside;
 use crate::made::fetch_of;
-use check_exprs::{Deeper, Terms, input, refuse};
+use check_exprs::{Deeper, Terms, input, part, refuse};
 use plan_leaves::{Boxed, RelCommon};
 use plan_raw::{RawCount, RawExpr, RawOffset, RawRel};
 use plan_rules::{amount_of, rows_skipped, rows_taken};
@@ -29,9 +31,27 @@ pub(crate) fn fetch<D: Deeper>(
     ensures { Comes result (spec.fetch number common.now (option_map (checked_rel terms.now) written.now) (checked_offset terms.now offset.now) (checked_count terms.now count.now) progress) }
 {
     let (rel, progress) = input(deeper, terms, progress, number, written)?;
-    let (offset, count) = amounts_in(number, offset_in(terms, offset), count_in(terms, count))?;
-    let rel = fetch_of(terms.alloc(), number, common, rel, offset, count)?;
-    Ok((rel, progress))
+    fetch_over(terms, progress, number, common, rel, offset, count)
+}
+
+/// How many rows of this input are skipped and taken.
+fn fetch_over(
+    terms: &Terms<'_>,
+    progress: Progress,
+    number: u32,
+    common: &Option<RelCommon>,
+    rel: Rel,
+    offset: &RawOffset,
+    count: &RawCount,
+) -> Result<(Rel, Progress), CheckError>
+    ensures { Comes result (inputs.fetch_over number common.now rel (checked_offset terms.now offset.now) (checked_count terms.now count.now) progress) }
+{
+    let amounts = amounts_in(number, offset_in(terms, offset), count_in(terms, count));
+    let (rel, (offset, count)) = beside(rel, amounts)?;
+    part(
+        fetch_of(terms.alloc(), number, common, rel, offset, count),
+        progress,
+    )
 }
 
 /// The rows that are skipped and taken.

@@ -9,7 +9,7 @@ ghost use Rattle.plan_verdict.specs.Rels as spec;
 ghost use Rattle.plan_verdict.specs.Verdict.{checked_expr, checked_rel};
 
 use crate::made::{cross_of, join_of};
-use check_exprs::{Deeper, Terms, condition_box, input, joined, maybe_condition, refuse};
+use check_exprs::{Deeper, Terms, condition_box, input, joined, maybe_condition, part, refuse};
 use plan_leaves::{Boxed, RelCommon};
 use plan_raw::{RawExpr, RawRel};
 use plan_rules::{join_columns, join_kind};
@@ -189,8 +189,10 @@ fn join_with<D: Deeper>(
         kind,
         post_join_filter,
     )?;
-    let rel = join_of(terms.alloc(), number, common, left, right, kind, on, post)?;
-    Ok((rel, progress))
+    part(
+        join_of(terms.alloc(), number, common, left, right, kind, on, post),
+        progress,
+    )
 }
 
 /// Every row of the one input with every row of the other.
@@ -208,6 +210,8 @@ pub(crate) fn cross<D: Deeper>(
 {
     let (left, progress) = input(deeper, terms, progress, number, left)?;
     let (right, progress) = input(deeper, terms, progress, number, right)?;
-    let rel = cross_of(terms.alloc(), number, common, left, right)?;
-    Ok((rel, progress))
+    part(
+        cross_of(terms.alloc(), number, common, left, right),
+        progress,
+    )
 }

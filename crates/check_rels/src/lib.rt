@@ -3,11 +3,11 @@
 
 mod fetch;
 mod filter;
+mod held;
 mod join;
 mod made;
 mod read;
 mod rel;
-mod rows;
 mod set;
 mod sort;
 

@@ -8,7 +8,7 @@ ghost use Rattle.plan_verdict.specs.Columns.{finished_in as finished_as};
 ghost use Rattle.plan_verdict.specs.Rels as rels;
 
 use check_exprs::{copied, joined, types_of};
-use plan_leaves::{Boxed, Items, RelCommon};
+use plan_leaves::{Boxed, Items, RelCommon, zip};
 use plan_rules::{columns_at, finished_in, join_columns};
 use plan_typed::{Expr, JoinKind, Op, Rel, SortKey, Source};
 use plan_verdict::CheckError;
@@ -27,7 +27,7 @@ pub(crate) fn read_of(
 ) -> Result<Rel, CheckError>
     ensures { Agrees result number (finished_as number common.now (ops.Read source names types filter mask) (columns_spec.columns_at types mask)) }
 {
-    let columns = columns_at(alloc, types.as_slice(), mask.as_slice())?;
+    let columns = columns_at(alloc, types.as_slice(), mask.as_slice());
     let op = Op::Read {
         source,
         names,
@@ -35,6 +35,7 @@ pub(crate) fn read_of(
         filter,
         mask,
     };
+    let columns = columns?;
     finished_in(alloc, number, common, op, columns.as_slice())
 }
 
@@ -47,8 +48,7 @@ pub(crate) fn filter_of(
 ) -> Result<Rel, CheckError>
     ensures { Agrees result number (finished_as number common.now (ops.Filter input condition) (columns_of input)) }
 {
-    let columns = copied(alloc, input.columns.as_slice())?;
-    let input = Boxed::new(alloc, input)?;
+    let (columns, input) = with_columns(alloc, input)?;
     let op = Op::Filter { input, condition };
     finished_in(alloc, number, common, op, columns.as_slice())
 }
@@ -63,8 +63,7 @@ pub(crate) fn fetch_of(
 ) -> Result<Rel, CheckError>
     ensures { Agrees result number (finished_as number common.now (ops.Fetch input offset count) (columns_of input)) }
 {
-    let columns = copied(alloc, input.columns.as_slice())?;
-    let input = Boxed::new(alloc, input)?;
+    let (columns, input) = with_columns(alloc, input)?;
     let op = Op::Fetch {
         input,
         offset,
@@ -82,10 +81,18 @@ pub(crate) fn sort_of(
 ) -> Result<Rel, CheckError>
     ensures { Agrees result number (finished_as number common.now (ops.Sort input keys) (columns_of input)) }
 {
-    let columns = copied(alloc, input.columns.as_slice())?;
-    let input = Boxed::new(alloc, input)?;
+    let (columns, input) = with_columns(alloc, input)?;
     let op = Op::Sort { input, keys };
     finished_in(alloc, number, common, op, columns.as_slice())
+}
+
+/// The columns of an input, and the input.
+fn with_columns(alloc: Global, input: Rel) -> Result<(Items<Ty>, Boxed<Rel>), NoMemory>
+    ensures columns { IfOk result (λ made. made.0 ≡ columns_of input) }
+    ensures input { IfOk result (λ made. made.1 ≡ input) }
+{
+    let columns = copied(alloc, input.columns.as_slice());
+    Ok(zip(columns, Boxed::new(alloc, input))?)
 }
 
 pub(crate) fn project_of(
@@ -97,11 +104,18 @@ pub(crate) fn project_of(
 ) -> Result<Rel, CheckError>
     ensures { Agrees result number (finished_as number common.now (ops.Project input exprs) (columns_of input ++ map ty_of exprs)) }
 {
-    let types = types_of(alloc, exprs.as_slice())?;
-    let columns = joined(alloc, input.columns.as_slice(), types.as_slice())?;
-    let input = Boxed::new(alloc, input)?;
+    let columns = with_types(alloc, input.columns.as_slice(), exprs.as_slice());
+    let (columns, input) = zip(columns, Boxed::new(alloc, input))?;
     let op = Op::Project { input, exprs };
     finished_in(alloc, number, common, op, columns.as_slice())
+}
+
+/// These columns, and then the types of the expressions.
+fn with_types(alloc: Global, columns: &[Ty], exprs: &[Expr]) -> Result<Items<Ty>, NoMemory>
+    ensures { IfOk result (λ both. both ≡ columns.now ++ map ty_of exprs.now) }
+{
+    let types = types_of(alloc, exprs)?;
+    joined(alloc, columns, types.as_slice())
 }
 
 pub(crate) fn join_of(
@@ -121,30 +135,16 @@ pub(crate) fn join_of(
         kind,
         left.columns.as_slice(),
         right.columns.as_slice(),
-    )?;
-    let op = join_op(alloc, left, right, kind, on, post)?;
-    finished_in(alloc, number, common, op, columns.as_slice())
-}
-
-fn join_op(
-    alloc: Global,
-    left: Rel,
-    right: Rel,
-    kind: JoinKind,
-    on: Expr,
-    post: Option<Expr>,
-) -> Result<Op, NoMemory>
-    ensures { IfOk result (λ op. op ≡ ops.Join left right kind on post) }
-{
-    let left = Boxed::new(alloc, left)?;
-    let right = Boxed::new(alloc, right)?;
-    Ok(Op::Join {
+    );
+    let (columns, (left, right)) = zip(columns, boxed(alloc, left, right))?;
+    let op = Op::Join {
         left,
         right,
         kind,
         on,
         post,
-    })
+    };
+    finished_in(alloc, number, common, op, columns.as_slice())
 }
 
 pub(crate) fn cross_of(
@@ -156,15 +156,16 @@ pub(crate) fn cross_of(
 ) -> Result<Rel, CheckError>
     ensures { Agrees result number (finished_as number common.now (ops.Cross left right) (columns_of left ++ columns_of right)) }
 {
-    let columns = joined(alloc, left.columns.as_slice(), right.columns.as_slice())?;
-    let op = cross_op(alloc, left, right)?;
+    let columns = joined(alloc, left.columns.as_slice(), right.columns.as_slice());
+    let (columns, (left, right)) = zip(columns, boxed(alloc, left, right))?;
+    let op = Op::Cross { left, right };
     finished_in(alloc, number, common, op, columns.as_slice())
 }
 
-fn cross_op(alloc: Global, left: Rel, right: Rel) -> Result<Op, NoMemory>
-    ensures { IfOk result (λ op. op ≡ ops.Cross left right) }
+/// Two inputs.
+fn boxed(alloc: Global, left: Rel, right: Rel) -> Result<(Boxed<Rel>, Boxed<Rel>), NoMemory>
+    ensures left { IfOk result (λ both. both.0 ≡ left) }
+    ensures right { IfOk result (λ both. both.1 ≡ right) }
 {
-    let left = Boxed::new(alloc, left)?;
-    let right = Boxed::new(alloc, right)?;
-    Ok(Op::Cross { left, right })
+    Ok(zip(Boxed::new(alloc, left), Boxed::new(alloc, right))?)
 }

@@ -8,7 +8,7 @@ ghost use Rattle.plan_verdict.specs.Sets as sets;
 ghost use Rattle.plan_verdict.specs.Verdict.{checked_rel};
 
 use crate::rel::inputs;
-use check_exprs::{Deeper, Terms, columns_of_each, refuse};
+use check_exprs::{Deeper, Terms, columns_of_each, part, refuse};
 use plan_leaves::{Items, RelCommon};
 use plan_raw::RawRel;
 use plan_rules::{are_of_kinds, finished_in, set_columns, set_op};
@@ -31,8 +31,7 @@ pub(crate) fn set<D: Deeper>(
     ensures { Comes result (spec.set number common.now (map (checked_rel terms.now) written.now) code progress) }
 {
     let (rels, progress) = inputs(deeper, terms, progress, written)?;
-    let rel = set_of(terms.alloc(), number, common, rels, code)?;
-    Ok((rel, progress))
+    part(set_of(terms.alloc(), number, common, rels, code), progress)
 }
 
 fn set_of(

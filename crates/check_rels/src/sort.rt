@@ -2,10 +2,13 @@
 ghost use Rattle.std.specs.Prelude.{map};
 ghost use Rattle.plan_verdict.specs.Checking.{in_order};
 ghost use Rattle.std.specs.Option.{option_map};
+ghost use Rattle.check_rels.specs.Inputs as inputs;
+ghost use Rattle.plan_typed.specs.Types.{columns_of};
 ghost use Rattle.plan_verdict.specs.Checking.{Comes};
 ghost use Rattle.plan_verdict.specs.Rels as spec;
 ghost use Rattle.plan_verdict.specs.Verdict.{checked_expr, checked_rel, checked_sort};
 
+use crate::held::beside;
 use crate::made::sort_of;
 use check_exprs::{Deeper, Terms, each_of, input, part, refuse, required};
 use plan_leaves::{Boxed, Items, RelCommon};
@@ -29,15 +32,47 @@ pub(crate) fn sort<D: Deeper>(
     ensures { Comes result (spec.sort number common.now (option_map (checked_rel terms.now) written.now) (map (checked_sort terms.now) sorts.now) progress) }
 {
     let (rel, progress) = input(deeper, terms, progress, number, written)?;
-    let (keys, progress) = sort_keys(
+    sort_over(deeper, terms, progress, number, common, rel, sorts)
+}
+
+/// Keys over the columns of this input.
+fn sort_over<D: Deeper>(
+    deeper: &D,
+    terms: &Terms<'_>,
+    progress: Progress,
+    number: u32,
+    common: &Option<RelCommon>,
+    rel: Rel,
+    sorts: &[SortField],
+) -> Result<(Rel, Progress), CheckError>
+    requires { D.is_ready deeper.now }
+    ensures { Comes result (inputs.sort_over number common.now rel (map (checked_sort terms.now) sorts.now) progress) }
+{
+    let keys = keys_over(deeper, terms, progress, number, &rel, sorts);
+    let (rel, (keys, progress)) = beside(rel, keys)?;
+    part(sort_of(terms.alloc(), number, common, rel, keys), progress)
+}
+
+/// Keys over the columns of a relation.
+fn keys_over<D: Deeper>(
+    deeper: &D,
+    terms: &Terms<'_>,
+    progress: Progress,
+    number: u32,
+    rel: &Rel,
+    sorts: &[SortField],
+) -> Result<(Items<SortKey>, Progress), CheckError>
+    requires { D.is_ready deeper.now }
+    ensures { Comes result (in_order (map (λ key. key (spec.over number (columns_of rel.now))) (map (checked_sort terms.now) sorts.now)) progress) }
+{
+    sort_keys(
         deeper,
         terms,
         progress,
         number,
         rel.columns.as_slice(),
         sorts,
-    )?;
-    part(sort_of(terms.alloc(), number, common, rel, keys), progress)
+    )
 }
 
 fn sort_keys<D: Deeper>(

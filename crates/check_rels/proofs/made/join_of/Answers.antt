@@ -1,16 +1,25 @@
 use Rattle.std.proofs.Common.{◌≡◌, ◌∙◌, ap, List}
 use Rattle.sub_types.specs.declared.kind.Ty.{Ty}
 use Rattle.plan_typed.specs.declared.rel.Op.TheVariants as ops
+use Rattle.plan_typed.specs.declared.rel.Rel.{Rel}
 use Rattle.plan_typed.specs.Types.{columns_of}
 use Rattle.plan_verdict.specs.Rels.{join_columns}
-use Rattle.check_rels.proofs.MadeLaws.{finished_at}
+use Rattle.check_rels.proofs.MadeLaws.{finished_at, if_found}
 use Rattle.check_rels.proofs.made.join_of.Goals as goal
 
 pub returns : goal.returns
 returns c =
-    let direct = join_columns c.args.kind (columns_of c.args.left) (columns_of c.args.right) in
-    let joined : c.as_slice-3.result.now ≡ direct =
-    c.as_slice-3.ensures ∙ c.in_ok-columns.ensures
-    ∙ ap (λ (left : List Ty). join_columns c.args.kind left c.as_slice-2.result.now) c.as_slice.ensures
-    ∙ ap (λ (right : List Ty). join_columns c.args.kind (columns_of c.args.left) right) c.as_slice-2.ensures in
-    finished_at c.finished_in.result c.args.number c.args.common.now c.in_ok-op.op (ops.Join c.args.left c.args.right c.args.kind c.args.on c.args.post) c.as_slice-3.result.now direct c.in_ok-op.ensures joined c.finished_in.ensures
+    let kind = c.args.kind in
+    let on = c.args.on in
+    let post = c.args.post in
+    let direct = join_columns kind (columns_of c.args.left) (columns_of c.args.right) in
+    let left = c.in_ok-columns.left in
+    let right = c.in_ok-columns.right in
+    let columns : c.as_slice-3.result.now ≡ direct =
+    c.as_slice-3.ensures ∙ if_found (λ (both : List Ty). both ≡ join_columns kind c.as_slice.result.now c.as_slice-2.result.now) c.join_columns.result _ c.in_ok-columns.ensures.first c.join_columns.ensures
+    ∙ ap (λ (first : List Ty). join_columns kind first c.as_slice-2.result.now) c.as_slice.ensures
+    ∙ ap (λ (second : List Ty). join_columns kind (columns_of c.args.left) second) c.as_slice-2.ensures in
+    let first : left ≡ c.args.left = if_found (λ (both : Rel × Rel). both.0 ≡ c.args.left) c.boxed.result _ c.in_ok-columns.ensures.second c.boxed.ensures.left in
+    let second : right ≡ c.args.right = if_found (λ (both : Rel × Rel). both.1 ≡ c.args.right) c.boxed.result _ c.in_ok-columns.ensures.second c.boxed.ensures.right in
+    finished_at c.finished_in.result c.args.number c.args.common.now (ops.Join left right kind on post) (ops.Join c.args.left c.args.right kind on post) c.as_slice-3.result.now direct
+    (ap (λ (rel : Rel). ops.Join rel right kind on post) first ∙ ap (λ (rel : Rel). ops.Join c.args.left rel kind on post) second) columns c.finished_in.ensures

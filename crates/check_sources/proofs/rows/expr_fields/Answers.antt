@@ -6,7 +6,7 @@ use Rattle.plan_verdict.specs.Checking.{Checking, Comes, in_order}
 use Rattle.plan_verdict.specs.Reads as spec
 use Rattle.plan_verdict.specs.Verdict.{checked_expr}
 use Rattle.check_exprs.proofs.OrderLaws.{two_made}
-use Rattle.check_rels.proofs.rows.expr_fields.Goals as goal
+use Rattle.check_sources.proofs.rows.expr_fields.Goals as goal
 
 pub returns : goal.returns
 returns g c =

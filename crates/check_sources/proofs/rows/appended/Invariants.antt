@@ -1,6 +1,6 @@
 use Rattle.std.proofs.Common.{◌≡◌, ◌++◌}
 use Rattle.std.specs.Vec.Iter.{into_iter_items}
-use Rattle.check_rels.proofs.rows.appended.Given as goal
+use Rattle.check_sources.proofs.rows.appended.Given as goal
 
 -- with what is left they are all
 abbrev pub invariant-loop-row : goal.invariant-loop-row

@@ -2,7 +2,7 @@ use Rattle.std.proofs.Common.{rules}
 use Rattle.plan_verdict.specs.Reads as spec
 use Rattle.plan_verdict.specs.Verdict.{checked_row}
 use Rattle.check_exprs.proofs.OrderLaws.{each_made}
-use Rattle.check_rels.proofs.rows.expr_rows.Goals as goal
+use Rattle.check_sources.proofs.rows.expr_rows.Goals as goal
 
 pub returns : goal.returns
 returns g c =

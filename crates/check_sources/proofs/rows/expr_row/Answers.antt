@@ -8,7 +8,7 @@ use Rattle.plan_verdict.specs.Meaning.{Expression}
 use Rattle.plan_verdict.specs.Reads as spec
 use Rattle.plan_verdict.specs.Verdict.{checked_expr}
 use Rattle.plan_verdict.proofs.FoldLaws.{checked_row-out}
-use Rattle.check_rels.proofs.rows.expr_row.Goals as goal
+use Rattle.check_sources.proofs.rows.expr_row.Goals as goal
 
 pub returns : goal.returns
 returns g c =

@@ -6,7 +6,7 @@ use Rattle.sub_types.specs.declared.kind.Ty.{Ty}
 use Rattle.plan_typed.specs.declared.expr.Expr.{Expr}
 use Rattle.plan_verdict.specs.Checking.{Checking, Comes}
 use Rattle.plan_verdict.proofs.FoldLaws.{checked_table-out}
-use Rattle.check_rels.proofs.rows.rows.Goals as goal
+use Rattle.check_sources.proofs.rows.rows.Goals as goal
 
 pub returns : goal.returns
 returns g c =

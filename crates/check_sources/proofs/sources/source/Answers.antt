@@ -5,8 +5,8 @@ use Rattle.plan_verdict.specs.declared.rule.Rule.TheVariants as rules
 use Rattle.plan_verdict.specs.Verdict.{checked_source, checked_table}
 use Rattle.plan_verdict.proofs.FoldLaws.{checked_source-Missing, checked_source-VirtualTable, checked_source-LocalFiles, checked_source-NamedTable}
 use Rattle.check_exprs.proofs.LevelLaws.{refused_comes}
-use Rattle.check_rels.proofs.SourceLaws.{source_comes}
-use Rattle.check_rels.proofs.read.source.Goals as goal
+use Rattle.check_sources.proofs.SourceLaws.{source_comes}
+use Rattle.check_sources.proofs.sources.source.Goals as goal
 
 pub returns-in-Missing : goal.returns-in-Missing
 returns-in-Missing g c =

@@ -168,7 +168,18 @@ fn literal_row(
 ) -> Result<(Items<Expr>, Progress), CheckError>
     ensures { Comes result (spec.literal_row number types.now row.now progress) }
 {
-    let fields = row.fields.as_slice();
+    literals_of(alloc, progress, number, types, row.fields.as_slice())
+}
+
+fn literals_of(
+    alloc: Global,
+    progress: Progress,
+    number: u32,
+    types: &[Ty],
+    fields: &[RawLiteral],
+) -> Result<(Items<Expr>, Progress), CheckError>
+    ensures { Comes result (spec.row_in number types.now (map (spec.literal_field number) fields.now) progress) }
+{
     if fields.len() != types.len() {
         return refuse(number, Rule::TypeMismatch);
     }

@@ -5,7 +5,7 @@ use Rattle.plan_typed.specs.declared.expr.Expr.{Expr}
 use Rattle.plan_verdict.specs.Checking.{Checking, Comes, in_order}
 use Rattle.plan_verdict.specs.Reads as spec
 use Rattle.check_exprs.proofs.OrderLaws.{two_made}
-use Rattle.check_rels.proofs.rows.literal_fields.Goals as goal
+use Rattle.check_sources.proofs.rows.literal_fields.Goals as goal
 
 pub returns : goal.returns
 returns c =
