@@ -1,3 +1,4 @@
 pub mod Inputs
 pub mod Joins
+pub mod SetParts
 pub mod ReadParts

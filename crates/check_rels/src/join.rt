@@ -1,13 +1,15 @@
 // Joins (Substrait `JoinRel` and `CrossRel`).
 ghost use Rattle.std.specs.Prelude.{◌++◌};
-ghost use Rattle.std.specs.Option.{option_map};
+ghost use Rattle.std.specs.Option.{ok_or, option_map};
 ghost use Rattle.plan_typed.specs.Types.{columns_of};
 ghost use Rattle.check_rels.specs.Joins as joins;
-ghost use Rattle.plan_verdict.specs.Checking.{Comes};
+ghost use Rattle.plan_verdict.specs.Checking.{Agrees, Comes};
 ghost use Rattle.plan_verdict.specs.Exprs.{condition};
 ghost use Rattle.plan_verdict.specs.Rels as spec;
 ghost use Rattle.plan_verdict.specs.Verdict.{checked_expr, checked_rel};
+ghost use Rattle.plan_verdict.specs.declared.rule.Rule.TheVariants as rules;
 
+use crate::held::beside;
 use crate::made::{cross_of, join_of};
 use check_exprs::{Deeper, Terms, condition_box, input, joined, maybe_condition, part, refuse};
 use plan_leaves::{Boxed, RelCommon};
@@ -33,7 +35,38 @@ pub(crate) fn join<D: Deeper>(
     ensures { Comes result (spec.join number common.now (option_map (checked_rel terms.now) left.now) (option_map (checked_rel terms.now) right.now) (option_map (checked_expr terms.now) expression.now) (option_map (checked_expr terms.now) post_join_filter.now) type_ progress) }
 {
     let (left, progress) = input(deeper, terms, progress, number, left)?;
-    let (right, progress) = input(deeper, terms, progress, number, right)?;
+    join_behind(
+        deeper,
+        terms,
+        progress,
+        number,
+        common,
+        left,
+        right,
+        expression,
+        post_join_filter,
+        type_,
+    )
+}
+
+/// A join of this left input, and of a right one.
+fn join_behind<D: Deeper>(
+    deeper: &D,
+    terms: &Terms<'_>,
+    progress: Progress,
+    number: u32,
+    common: &Option<RelCommon>,
+    left: Rel,
+    right: &Option<Boxed<RawRel>>,
+    expression: &Option<Boxed<RawExpr>>,
+    post_join_filter: &Option<Boxed<RawExpr>>,
+    type_: u32,
+) -> Result<(Rel, Progress), CheckError>
+    requires { D.is_ready deeper.now }
+    ensures { Comes result (joins.join_behind number common.now left (option_map (checked_rel terms.now) right.now) (option_map (checked_expr terms.now) expression.now) (option_map (checked_expr terms.now) post_join_filter.now) type_ progress) }
+{
+    let right = input(deeper, terms, progress, number, right);
+    let (left, (right, progress)) = beside(left, right)?;
     join_as(
         deeper,
         terms,
@@ -46,6 +79,16 @@ pub(crate) fn join<D: Deeper>(
         post_join_filter,
         type_,
     )
+}
+
+/// The kind of join of a number.
+fn kind_of(number: u32, type_: u32) -> Result<JoinKind, CheckError>
+    ensures { Agrees result number (ok_or (spec.join_kind type_) rules.UnsupportedForm) }
+{
+    match join_kind(type_) {
+        Some(kind) => Ok(kind),
+        None => refuse(number, Rule::UnsupportedForm),
+    }
 }
 
 /// A join of these inputs, of the kind with this number.
@@ -64,9 +107,7 @@ fn join_as<D: Deeper>(
     requires { D.is_ready deeper.now }
     ensures { Comes result (joins.join_as number common.now left right (option_map (checked_expr terms.now) expression.now) (option_map (checked_expr terms.now) post_join_filter.now) type_ progress) }
 {
-    let Some(kind) = join_kind(type_) else {
-        return refuse(number, Rule::UnsupportedForm);
-    };
+    let ((left, right), kind) = beside((left, right), kind_of(number, type_))?;
     join_over(
         deeper,
         terms,
@@ -148,7 +189,8 @@ fn join_over<D: Deeper>(
     requires { D.is_ready deeper.now }
     ensures { Comes result (spec.join_over number common.now left right kind (option_map (checked_expr terms.now) expression.now) (option_map (checked_expr terms.now) post_join_filter.now) progress) }
 {
-    let (on, progress) = on_condition(deeper, terms, progress, number, &left, &right, expression)?;
+    let on = on_condition(deeper, terms, progress, number, &left, &right, expression);
+    let ((left, right), (on, progress)) = beside((left, right), on)?;
     join_with(
         deeper,
         terms,
@@ -179,7 +221,7 @@ fn join_with<D: Deeper>(
     requires { D.is_ready deeper.now }
     ensures { Comes result (joins.join_with number common.now left right kind on (option_map (checked_expr terms.now) post_join_filter.now) progress) }
 {
-    let (post, progress) = later_condition(
+    let post = later_condition(
         deeper,
         terms,
         progress,
@@ -188,7 +230,8 @@ fn join_with<D: Deeper>(
         &right,
         kind,
         post_join_filter,
-    )?;
+    );
+    let ((left, right, on), (post, progress)) = beside((left, right, on), post)?;
     part(
         join_of(terms.alloc(), number, common, left, right, kind, on, post),
         progress,
@@ -209,7 +252,24 @@ pub(crate) fn cross<D: Deeper>(
     ensures { Comes result (spec.cross number common.now (option_map (checked_rel terms.now) left.now) (option_map (checked_rel terms.now) right.now) progress) }
 {
     let (left, progress) = input(deeper, terms, progress, number, left)?;
-    let (right, progress) = input(deeper, terms, progress, number, right)?;
+    cross_behind(deeper, terms, progress, number, common, left, right)
+}
+
+/// This left input with a right one.
+fn cross_behind<D: Deeper>(
+    deeper: &D,
+    terms: &Terms<'_>,
+    progress: Progress,
+    number: u32,
+    common: &Option<RelCommon>,
+    left: Rel,
+    right: &Option<Boxed<RawRel>>,
+) -> Result<(Rel, Progress), CheckError>
+    requires { D.is_ready deeper.now }
+    ensures { Comes result (joins.cross_behind number common.now left (option_map (checked_rel terms.now) right.now) progress) }
+{
+    let right = input(deeper, terms, progress, number, right);
+    let (left, (right, progress)) = beside(left, right)?;
     part(
         cross_of(terms.alloc(), number, common, left, right),
         progress,

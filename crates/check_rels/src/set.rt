@@ -5,8 +5,10 @@ ghost use Rattle.std.specs.Option.{option_map};
 ghost use Rattle.plan_verdict.specs.Checking.{Agrees, Comes};
 ghost use Rattle.plan_verdict.specs.Rels as spec;
 ghost use Rattle.plan_verdict.specs.Sets as sets;
+ghost use Rattle.check_rels.specs.SetParts as parts;
 ghost use Rattle.plan_verdict.specs.Verdict.{checked_rel};
 
+use crate::held::beside;
 use crate::rel::inputs;
 use check_exprs::{Deeper, Terms, columns_of_each, part, refuse};
 use plan_leaves::{Items, RelCommon};
@@ -43,16 +45,29 @@ fn set_of(
 ) -> Result<Rel, CheckError>
     ensures { Agrees result number (sets.set_in number common.now rels code) }
 {
-    let columns = columns_of_each(alloc, rels.as_slice())?;
+    let found = op_and_columns(alloc, number, rels.as_slice(), code);
+    let (inputs, (op, direct)) = beside(rels, found)?;
+    let op = Op::Set { inputs, op };
+    finished_in(alloc, number, common, op, direct.as_slice())
+}
+
+/// The operation of this number, and its columns over these inputs.
+fn op_and_columns(
+    alloc: Global,
+    number: u32,
+    rels: &[Rel],
+    code: u32,
+) -> Result<(SetOp, Items<Ty>), CheckError>
+    ensures { Agrees result number (parts.op_and_columns rels.now code) }
+{
+    let columns = columns_of_each(alloc, rels)?;
     let Some((first, others)) = first_and_others(columns.as_slice()) else {
         return refuse(number, Rule::UnsupportedForm);
     };
     let Some(op) = set_op(code) else {
         return refuse(number, Rule::UnsupportedForm);
     };
-    let direct = columns_in(alloc, number, op, first, others)?;
-    let op = Op::Set { inputs: rels, op };
-    finished_in(alloc, number, common, op, direct.as_slice())
+    Ok((op, columns_in(alloc, number, op, first, others)?))
 }
 
 /// The columns of a set operation of inputs of these columns, which are of the same kinds.

@@ -16,7 +16,7 @@ returns c =
     let left = c.in_ok-columns.left in
     let right = c.in_ok-columns.right in
     let columns : c.as_slice-3.result.now ≡ direct =
-    c.as_slice-3.ensures ∙ if_found (λ (both : List Ty). both ≡ join_columns kind c.as_slice.result.now c.as_slice-2.result.now) c.join_columns.result _ c.in_ok-columns.ensures.first c.join_columns.ensures
+    c.as_slice-3.ensures ∙ if_found (λ (both : List Ty). both ≡ join_columns kind c.as_slice.result.now c.as_slice-2.result.now) c.join_columns-columns.result _ c.in_ok-columns.ensures.first c.join_columns-columns.ensures
     ∙ ap (λ (first : List Ty). join_columns kind first c.as_slice-2.result.now) c.as_slice.ensures
     ∙ ap (λ (second : List Ty). join_columns kind (columns_of c.args.left) second) c.as_slice-2.ensures in
     let first : left ≡ c.args.left = if_found (λ (both : Rel × Rel). both.0 ≡ c.args.left) c.boxed.result _ c.in_ok-columns.ensures.second c.boxed.ensures.left in
