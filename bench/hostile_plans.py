@@ -132,6 +132,7 @@ PLANS = {
     "references to columns": lambda: references_to_columns(1_000_000),
     "grouping expressions of one set": lambda: groupings(1, 1_400_000, literal),
     "grouping expressions of 64 sets": lambda: groupings(64, 20_000, literal),
+    "scattered grouping expressions of 64 sets": lambda: groupings(64, 17_000, lambda place: literal(place * 0x1E3779B97F4A7C15 % (1 << 62))),
     "equal grouping expressions of 64 sets": lambda: groupings(64, 20_000, lambda place: literal(place % 1_000)),
     "own grouping expressions": lambda: own_expressions(1_100_000),
     "999 relations of 1,024 columns": lambda: wide(960, 1_024),
