@@ -1,0 +1,4 @@
+pub mod ShapeLaws
+pub mod DictionaryLaws
+pub mod ColumnLaws
+pub mod Law
