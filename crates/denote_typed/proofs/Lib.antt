@@ -1,3 +1,4 @@
+mod Worked
 pub mod RowsLaws
 pub mod FitLaws
 pub mod EachLaws
