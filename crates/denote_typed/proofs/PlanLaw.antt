@@ -1,6 +1,6 @@
 -- The rows of plans with subqueries fit their columns.
-use Rattle.std.proofs.Common.{◌≡◌, ℕ, ◌+◌, suc, List, [], ◌∷◌, ◌++◌, Bool, true, false, ◌&&◌, ◌==◌, Option, Some, None, Result, Ok, Err, IfOk, map, slice_get, eqb-true, refl, sym, subst, arith}
-use Rattle.std.specs.Prelude.{not, if◌then◌else◌}
+use Rattle.std.proofs.Common.{◌≡◌, ℕ, ◌+◌, suc, List, [], ◌∷◌, ◌++◌, Bool, true, false, ◌&&◌, ◌==◌, Option, Some, None, Result, Ok, Err, IfOk, map, slice_get, eqb-true, refl, sym, ap, ◌∙◌, subst, arith}
+use Rattle.std.specs.Prelude.{not, unwrap_or, if◌then◌else◌}
 use Rattle.std.specs.List.{AllByRecursion}
 use Rattle.std.proofs.lemmas.Bool.{and_parts}
 use Rattle.sub_types.specs.Value.{FitsTy, Fits}
@@ -65,7 +65,9 @@ level_more : (known : Known) (sub : Sub) (worth : Worth) → ((slot : Slot) → 
 level_more known sub worth k rel taken awaits =
     slots_more sub.hole worth known rel.number 0 (slots_of_op (out-Op rel.op)) taken (λ place slot is same at.
     let there : place ≡ sub.hole.node = omega (arith, at) in
-    k slot (awaits same slot (subst (λ (one : ℕ). slice_get (slots_of_op (out-Op rel.op)) one ≡ Some slot) there is)))
+    let found = awaits same in
+    let one_slot : found.0 ≡ slot = ap (λ (o : Option Slot). unwrap_or o slot) (sym found.1 ∙ subst (λ (one : ℕ). slice_get (slots_of_op (out-Op rel.op)) one ≡ Some slot) there is) in
+    k slot (subst (λ (one : Slot). Awaits sub.kind (columns_of sub.rel) one) one_slot found.2))
 
 none_taken : (start number : ℕ) (slots : List Slot) → AreTaken (worth_at [] number) start slots
 none_taken start number [] = tt

@@ -2,7 +2,6 @@
 -- what may go to each.
 use Rattle.std.specs.Prelude.{◌≡◌, ℕ, ◌+◌, List, [], ◌∷◌, ◌++◌, Option, Some, None, IsTrue, map, slice_get}
 use Rattle.std.specs.List.{AllByRecursion, flat_map}
-use Rattle.std.specs.Option.{ForSome}
 use Rattle.sub_types.specs.Kind.{IsKind}
 use Rattle.sub_types.specs.Value.{FitsTy}
 use Rattle.sub_types.specs.declared.kind.Kind.TheVariants as kinds
@@ -112,9 +111,9 @@ Awaits subs.In columns (OfValue ty) = ⊥
 Awaits subs.Exists columns (OfList value ty) = ⊥
 Awaits kind columns OfNone = ⊥
 
--- the node of a relation that a subquery's hole names awaits it
+-- the node of a relation that a subquery's hole names is there, and awaits it
 abbrev pub AwaitsAt : Sub → Rel-F Op Rel → Type 0
-AwaitsAt sub rel = rel.number ≡ sub.hole.relation → ForSome (slice_get (slots_of_op (out-Op rel.op)) sub.hole.node) (Awaits sub.kind (columns_of sub.rel))
+AwaitsAt sub rel = rel.number ≡ sub.hole.relation → (slot : Slot) × (slice_get (slots_of_op (out-Op rel.op)) sub.hole.node ≡ Some slot) × Awaits sub.kind (columns_of sub.rel) slot
 
 abbrev pub AwaitsIn : Sub → Rel → Type 0
 AwaitsIn sub rel = every-Rel (λ _. Unit {0}) (AwaitsAt sub) rel

@@ -1,0 +1,16 @@
+pub mod Parts
+pub mod Waits
+pub mod Slots
+pub mod Nodes
+pub mod Levels
+pub mod NumberLaws
+pub mod ExprLaws
+pub mod SubLaws
+pub mod RowLaws
+pub mod RelLaws
+pub mod GroupLaws
+pub mod AggregateLaws
+pub mod LevelLaws
+pub mod PartLevelLaws
+pub mod PlanLevelLaws
+pub mod Law
