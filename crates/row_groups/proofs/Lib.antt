@@ -1,0 +1,3 @@
+pub mod AggregateLaws
+pub mod GroupSetLaws
+pub mod WholeLaws

@@ -1,0 +1,4 @@
+pub mod DistinctLaws
+pub mod SameLaws
+pub mod SetLaws
+pub mod SortedLaws

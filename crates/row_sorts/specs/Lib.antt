@@ -1,0 +1,2 @@
+pub mod SetPlaces
+pub mod Sorting

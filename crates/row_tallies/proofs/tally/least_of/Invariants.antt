@@ -1,0 +1,12 @@
+use Rattle.std.proofs.Common.{◌≡◌, length}
+use Rattle.std.specs.Ordering.{is_lt}
+use Rattle.plan_denote.specs.Tally.{best_of}
+use Rattle.row_tallies.proofs.TallyLaws.{best_before}
+use Rattle.row_tallies.proofs.tally.least_of.Given as goal
+
+-- the best of what is left and of what is behind it is the best of all
+abbrev pub invariant-loop-value : goal.invariant-loop-value
+invariant-loop-value l = best_before is_lt l.members l.least ≡ best_of is_lt l.fn.members
+
+abbrev pub decreases-loop-value : goal.decreases-loop-value
+decreases-loop-value l = length l.members
