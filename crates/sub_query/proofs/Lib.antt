@@ -1,0 +1,6 @@
+mod ExprLaws
+mod PartLaws
+mod ProgressLaws
+mod RelLaws
+mod RowLaws
+mod WalkLaws
