@@ -1,5 +1,5 @@
 // The columns of a file that a table wants.
-ghost use Rattle.std.specs.Prelude.{◌≡◌, ◌≢◌, ◌≤◌, Err, IfErr, length, position};
+ghost use Rattle.std.specs.Prelude.{◌≡◌, ◌≢◌, ◌^◌, ◌<◌, Err, IfErr, length, position};
 ghost use Rattle.table_open.specs.Answers.{FitsFile, IsFileError};
 ghost use Rattle.table_open.specs.Columns as spec;
 
@@ -23,7 +23,7 @@ pub(crate) fn places_of(
     table: TableColumns<'_>,
 ) -> Result<Vec<u32>, FileError>
     requires same { length table.names.now ≡ length table.types.now }
-    requires few { length table.names.now ≤ 1024 }
+    requires few { length table.names.now < 2 ^ 32 }
     ensures places { FitsFile (λ places. places.items) result (spec.match_columns table.entry.relation fields.now table.entry.names.now table.entry.types.now) }
     ensures error { IfErr result (IsFileError table.entry.relation) }
     ensures read { result ≢ Err FileError.ReadFault }

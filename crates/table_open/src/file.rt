@@ -1,5 +1,5 @@
 // One file of a table.
-ghost use Rattle.std.specs.Prelude.{◌≡◌, ◌+◌, ◌≤◌, Some, Ok, IsSome, IfOk, IfErr, OnOk, length, if◌then◌else◌, is_ok};
+ghost use Rattle.std.specs.Prelude.{◌≡◌, ◌+◌, ◌^◌, ◌<◌, Some, Ok, IsSome, IfOk, IfErr, OnOk, length, if◌then◌else◌, is_ok};
 ghost use Rattle.world.specs.Counts.{HasCause};
 ghost use Rattle.world.specs.Files.{Files};
 ghost use Rattle.arrow_meta.specs.Head.{head_of};
@@ -37,7 +37,7 @@ pub(crate) fn open_one<F: Folder>(
     table: TableColumns<'_>,
 ) -> Result<OpenFile<F::R>, TableError>
     requires same { length table.names.now ≡ length table.types.now }
-    requires few { length table.names.now ≤ 1024 }
+    requires few { length table.names.now < 2 ^ 32 }
     ensures told { (files : Files) → F.files folder.old ≡ Some files
         → FitsTable (file_seen F.R.bytes) result (spec.open_one files table.entry.relation table.entry.names.now table.entry.types.now (number, name.now)) }
     ensures tells { (files : Files) → F.files folder.old ≡ Some files → IfOk result (λ one. IsSome (F.R.bytes one.reader)) }
@@ -78,7 +78,7 @@ fn read_head<R: Reader>(
     table: TableColumns<'_>,
 ) -> Result<(FileHead, Vec<u32>), FileError>
     requires same { length table.names.now ≡ length table.types.now }
-    requires few { length table.names.now ≤ 1024 }
+    requires few { length table.names.now < 2 ^ 32 }
     ensures told { IfTold (R.bytes reader.old) (λ bytes.
         FitsFile found_seen result (spec.wanted_in table.entry.relation table.entry.names.now table.entry.types.now bytes)) }
     ensures head { IfOk result (λ found. IfTold (R.bytes reader.old) (λ bytes. head_of bytes ≡ Ok (head_seen found.0))) }

@@ -1,5 +1,5 @@
 // The files of a table.
-ghost use Rattle.std.specs.Prelude.{◌≡◌, ◌≢◌, ◌+◌, ◌-◌, ◌≤◌, ◌↔◌, [], Some, Err, IsSome, IfOk, IfErr, OnOk, OnErr, length, map, fold, All};
+ghost use Rattle.std.specs.Prelude.{◌≡◌, ◌≢◌, ◌+◌, ◌-◌, ◌^◌, ◌<◌, ◌≤◌, ◌↔◌, [], Some, Err, IsSome, IfOk, IfErr, OnOk, OnErr, length, map, fold, All};
 ghost use Rattle.world.specs.Counts.{HasCause, sum_of_counts};
 ghost use Rattle.world.specs.Files.{Files};
 ghost use Rattle.world.specs.Reads.{joined_reads};
@@ -32,7 +32,7 @@ pub fn open_table<F: Folder>(
     types: &[Ty],
 ) -> Result<Vec<OpenFile<F::R>>, TableError>
     requires same { length columns.now ≡ length types.now }
-    requires few { length columns.now ≤ 1024 }
+    requires few { length columns.now < 2 ^ 32 }
     requires few_words { length words.now ≤ 1024 }
 
     // What is denoted is opened, or refused, where the folder tells its files.
@@ -82,7 +82,7 @@ fn open_all<F: Folder>(
     opened: &mut Vec<OpenFile<F::R>>,
 ) -> Result<(), TableError>
     requires same { length table.names.now ≡ length table.types.now }
-    requires few { length table.names.now ≤ 1024 }
+    requires few { length table.names.now < 2 ^ 32 }
     requires few_words { length words.now ≤ 1024 }
     requires empty { opened.old.items ≡ [] }
     ensures told { (files : Files) → F.files folder.old ≡ Some files

@@ -1,0 +1,4 @@
+pub mod CountLaws
+pub mod FileLaws
+pub mod OpenLaws
+pub mod ReadLaws

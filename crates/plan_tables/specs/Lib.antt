@@ -1,0 +1,4 @@
+pub mod Tables
+pub mod Open
+pub mod Refused
+pub mod Read
