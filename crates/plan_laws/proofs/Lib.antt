@@ -1,0 +1,12 @@
+pub mod TestLaws
+pub mod Levels
+pub mod TableLaw
+pub mod FilledLaws
+pub mod PlanLaw
+pub mod EveryLaws
+pub mod FitLaws
+pub mod PlanReadLaws
+pub mod ShapeLaws
+pub mod NumberLaws
+pub mod FoundLaws
+pub mod OpenedLaws

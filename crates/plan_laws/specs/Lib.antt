@@ -1,0 +1,4 @@
+pub mod Tested
+pub mod Fitting
+pub mod Shaped
+pub mod Opened
