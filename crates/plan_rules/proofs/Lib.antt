@@ -5,3 +5,4 @@ pub mod NameLaws
 pub mod MarkLaws
 pub mod SameLaws
 pub mod EqualLaws
+pub mod HeldLaws

@@ -7,6 +7,7 @@ mod calls;
 mod casts;
 mod columns;
 mod declared;
+mod held;
 mod joins;
 mod laws;
 mod literals;
@@ -23,6 +24,7 @@ pub use casts::can_cast;
 pub use columns::{columns_at, finished_in, mask_in, schema_in};
 pub use declared::{Declarations, Named};
 pub use func_table::is_equal as is_equal_kind;
+pub use held::{beside, must};
 pub use joins::{
     amount_of, are_of_kinds, direction_of, join_columns, join_kind, rows_skipped, rows_taken,
     set_columns, set_op,
