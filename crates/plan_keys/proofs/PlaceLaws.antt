@@ -14,6 +14,9 @@ use Rattle.std.proofs.lemmas.Map.Lookups.{exact_signed}
 use Rattle.std.proofs.lemmas.Bool.{and_parts}
 use Rattle.std.proofs.lemmas.List.Quantifiers.{position-Some}
 use Rattle.std.proofs.Math.Bool.{and-false}
+use Rattle.std.proofs.Math.ListN.{set}
+use Rattle.std.proofs.lemmas.List.{get_or-set_other, length-set}
+use Rattle.std.proofs.lemmas.Grind.{get_or-set_at}
 use Rattle.plan_typed.specs.declared.expr.Expr.{Expr}
 use Rattle.plan_verdict.specs.declared.groups.Group.{Group}
 use Rattle.plan_verdict.specs.Same.{same_expr}
@@ -21,7 +24,9 @@ use Rattle.plan_verdict.specs.Aggregates.{is_same_group}
 use Rattle.plan_rules.proofs.EqualLaws.{is_told}
 use Rattle.plan_keys.specs.Keys.{expr_key}
 use Rattle.plan_keys.specs.declared.first_places.FirstPlaces.{FirstPlaces}
-use Rattle.plan_keys.specs.Places.{is_key, has_key, slot_in, has_slot, slot_count, first_at, later_at, or_else, unless_at, IsIndex, Keeps}
+use Rattle.plan_keys.specs.declared.first_places.Spot.{Spot}
+use Rattle.plan_keys.specs.declared.first_places.Spot.TheVariants.{Nowhere, Slot, ByKey}
+use Rattle.plan_keys.specs.Places.{is_key, has_key, slot_in, has_slot, slot_count, first_at, later_at, or_else, unless_at, vec_cmp, IsIndex, IsSpot, IsSpotOf, Keeps, KeepsAll, KeepsAt}
 use Rattle.plan_keys.proofs.FirstLaws.{position-same, position-never, position-push, position-stays, position-below, none_within, some_around, first_is, first_is_not, or_else-none, or_else-some, unless-kept}
 use Rattle.plan_keys.proofs.KeyLaws.{equal_keys}
 
@@ -209,9 +214,6 @@ on_ok (Err e) then ok = ok
 abbrev entry_at : List ℤ → List (Vec ℤ Global × ℕ) → Option ℕ
 entry_at key entries = lookup (λ (kept : Vec ℤ Global). is_key key kept.items) entries
 
-abbrev pub vec_cmp : Vec ℤ Global → Vec ℤ Global → Ordering
-vec_cmp a b = slice_cmp int_cmp a.items b.items
-
 swap : {X : Type 0} (a b : Bool) (x y : X) (rest : Option X) → (a ≡ true → b ≡ false) → cond a (Some x) (cond b (Some y) rest) ≡ cond b (Some y) (cond a (Some x) rest)
 swap true true x y rest apart = let both : true ≡ false = apart refl in absurd (cc)
 swap true false x y rest apart = refl
@@ -261,3 +263,61 @@ module _ (before after : FirstPlaces) (key : Vec ℤ Global) (place : ℕ) where
       at : (other : ℕ) (b : Bool) → nat_eq slot other ≡ b → or_else (first_at before other) (cond b (Some place) None) ≡ first_at before other
       at other false differs = or_else-none (first_at before other)
       at other true agrees = or_else-some (first_at before other) (Some place) (subst (λ n. IsSome (first_at before n)) (eqb-true slot other agrees) some)
+
+-- in its slot, which is empty
+module _ (before after : FirstPlaces) (key : List ℤ) (place slot : ℕ) (is : slot ≡ slot_in (slot_count before) key) (empty : first_at before slot ≡ None) where
+  pub keeps-slot : slot < slot_count before → after.slots.items ≡ set before.slots.items slot (Some place) → after.by_key.entries ≡ before.by_key.entries → Keeps before after key place
+  keeps-slot below slots entries = record {
+    slots = ap (λ (xs : List (Option ℕ)). length xs) slots ∙ length-set before.slots.items slot (Some place);
+    firsts = λ other.
+        ap (λ xs. get_or xs other None) slots ∙ at other (nat_eq slot other) refl
+        ∙ ap (λ n. or_else (first_at before other) (cond (nat_eq n other) (Some place) None)) is;
+    laters = λ other.
+        ap (entry_at other) entries
+        ∙ sym (ap (λ first. cond (is_some first && is_key other key) (Some place) (later_at before other)) (ap (first_at before) (sym is) ∙ empty));
+  }
+    where
+      at : (other : ℕ) (b : Bool) → nat_eq slot other ≡ b → get_or (set before.slots.items slot (Some place)) other None ≡ or_else (first_at before other) (cond (nat_eq slot other) (Some place) None)
+      at other false differs =
+          get_or-set_other before.slots.items slot other (Some place) None (λ same. let both : false ≡ true = sym differs ∙ eq-eqb slot other (sym same) in absurd (cc))
+          ∙ sym (ap (λ b. or_else (first_at before other) (cond b (Some place) None)) differs ∙ or_else-none (first_at before other))
+      at other true agrees =
+          let same : slot ≡ other = eqb-true slot other agrees in
+          get_or-set_at before.slots.items slot other (Some place) None (sym same) below
+          ∙ sym (ap (λ b. or_else (first_at before other) (cond b (Some place) None)) agrees ∙ ap (λ first. or_else first (Some place)) (ap (first_at before) (sym same) ∙ empty))
+
+-- nothing more is kept
+pub unchanged : (groups : List Group) (before after : FirstPlaces) → KeepsAll before after → IsIndex groups before → IsIndex groups after
+unchanged groups before after kept index = record {
+  firsts = λ slot.
+      ap (λ xs. get_or xs slot None) kept.slots ∙ index.firsts slot
+      ∙ ap (λ (xs : List (Option ℕ)). position (has_slot (length xs) slot) groups) (sym kept.slots);
+  laters = λ key.
+      ap (entry_at key) kept.laters ∙ index.laters key
+      ∙ ap (λ (xs : List (Option ℕ)). unless_at (position (has_key key) groups) (position (has_slot (length xs) (slot_in (length xs) key)) groups)) (sym kept.slots);
+}
+
+-- ---- a group more, by what was found of it
+pub spot-within : (places : FirstPlaces) (group : Group) (spot : Spot) → 0 < slot_count places → IsSpot places group spot → IsSpotOf places spot
+spot-within places group Nowhere room spot = tt
+spot-within places group (Slot slot) room spot = omega (arith, spot.1)
+spot-within places group (ByKey key) room spot = tt
+
+-- an equal group stands before it
+pub index-again : (groups : List Group) (places : FirstPlaces) (group : Group) (place : ℕ) → position (is_same_group group) groups ≡ Some place → IsIndex groups places → IsIndex (groups ++ group ∷ []) places
+index-again groups places group place first index = at group.holds_subquery refl
+  where
+    at : (b : Bool) → group.holds_subquery ≡ b → IsIndex (groups ++ group ∷ []) places
+    at true holds = index-subquery groups places group holds index
+    at false alone = index-later groups places group (ap is_some (place-of groups group alone ∙ first)) index
+
+-- its place is kept at its spot
+pub index-kept : (groups : List Group) (before after : FirstPlaces) (group : Group) (spot : Spot) → IsIndex groups before → 0 < slot_count before → position (is_same_group group) groups ≡ None → IsSpot before group spot
+    → KeepsAt before after (length groups) spot → IsIndex (groups ++ group ∷ []) after
+index-kept groups before after group Nowhere index room none spot kept = index-subquery groups after group spot (unchanged groups before after kept index)
+index-kept groups before after group (Slot slot) index room none spot kept =
+    index-added groups before after group (expr_key group.expr) index spot.0 refl (place-of groups group spot.0 ∙ none)
+    (keeps-slot before after (expr_key group.expr) (length groups) slot spot.1 spot.2 (spot-within before group (Slot slot) room spot) kept.0 kept.1)
+index-kept groups before after group (ByKey key) index room none spot kept =
+    index-added groups before after group key.items index spot.0 spot.1 (ap (λ k. position (has_key k) groups) spot.1 ∙ place-of groups group spot.0 ∙ none)
+    (keeps-later before after key (length groups) (ap (λ k. is_some (first_at before (slot_in (slot_count before) k))) spot.1 ∙ spot.2) kept.0 kept.1)

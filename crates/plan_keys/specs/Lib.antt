@@ -1,3 +1,4 @@
 pub mod Digests
+pub mod Groups
 pub mod Keys
 pub mod Places

@@ -1,12 +1,19 @@
 -- The places of groups by the keys of their expressions.
-use Rattle.std.specs.Prelude.{◌≡◌, ℕ, ℤ, ◌%◌, List, Bool, ◌&&◌, not, cond, nat_eq, max, length, Option, Some, None, is_some, position, get_or}
-use Rattle.std.specs.BTreeMap.{get_by}
+use Rattle.std.specs.Prelude.{◌≡◌, ℕ, ℤ, ◌%◌, ◌<◌, List, Vec, Bool, true, false, ◌&&◌, not, cond, nat_eq, max, length, Option, Some, None, is_some, position, get_or, slice_set}
+use Rattle.std.specs.BTreeMap.{get_by, insert_entry}
 use Rattle.std.specs.Cmp.Lexicographic.{slice_cmp}
 use Rattle.std.specs.Ordering.{int_cmp, is_eq}
+use Rattle.std.specs.declared.alloc.Global.{Global}
+use Rattle.std.specs.declared.cmp.Ordering.{Ordering}
 use Rattle.plan_verdict.specs.declared.groups.Group.{Group}
+use Rattle.plan_verdict.specs.Aggregates.{is_same_group}
 use Rattle.plan_keys.specs.Digests.{digest}
 use Rattle.plan_keys.specs.Keys.{expr_key}
 use Rattle.plan_keys.specs.declared.first_places.FirstPlaces.{FirstPlaces}
+use Rattle.plan_keys.specs.declared.first_places.Found.{Found}
+use Rattle.plan_keys.specs.declared.first_places.Found.TheVariants.{At, New}
+use Rattle.plan_keys.specs.declared.first_places.Spot.{Spot}
+use Rattle.plan_keys.specs.declared.first_places.Spot.TheVariants.{Nowhere, Slot, ByKey}
 
 -- the slot of a key among so many
 abbrev pub slot_in : ℕ → List ℤ → ℕ
@@ -52,6 +59,23 @@ pub record IsIndex (groups : List Group) (places : FirstPlaces) : Type 0 where
   pub firsts : (slot : ℕ) → first_at places slot ≡ position (has_slot (slot_count places) slot) groups
   pub laters : (key : List ℤ) → later_at places key ≡ unless_at (position (has_key key) groups) (position (has_slot (slot_count places) (slot_in (slot_count places) key)) groups)
 
+-- a spot that a group's first place may be kept at
+abbrev pub IsSpotOf : FirstPlaces → Spot → Type 0
+IsSpotOf places (Slot slot) = slot < slot_count places
+IsSpotOf places _ = Unit {0}
+
+-- where the first place of a group's key is to be kept: in its slot, where that is empty, or else by the key
+abbrev pub IsSpot : FirstPlaces → Group → Spot → Type 0
+IsSpot places group Nowhere = group.holds_subquery ≡ true
+IsSpot places group (Slot slot) = (group.holds_subquery ≡ false) × (slot ≡ slot_in (slot_count places) (expr_key group.expr)) × (first_at places slot ≡ None)
+IsSpot places group (ByKey key) =
+    (group.holds_subquery ≡ false) × (key.items ≡ expr_key group.expr) × (is_some (first_at places (slot_in (slot_count places) (expr_key group.expr))) ≡ true)
+
+-- what is found of a group: the place of the first equal one, or where its own is to be kept
+abbrev pub IsFound : List Group → FirstPlaces → Group → Found → Type 0
+IsFound groups places group (At place) = position (is_same_group group) groups ≡ Some place
+IsFound groups places group (New spot) = (position (is_same_group group) groups ≡ None) × IsSpot places group spot
+
 -- the place of a key is kept too, in its slot or, where that has a place, under the key
 pub record Keeps (before after : FirstPlaces) (key : List ℤ) (place : ℕ) : Type 0 where
   pub slots : slot_count after ≡ slot_count before
@@ -62,3 +86,13 @@ pub record Keeps (before after : FirstPlaces) (key : List ℤ) (place : ℕ) : T
 pub record KeepsAll (before after : FirstPlaces) : Type 0 where
   pub slots : after.slots.items ≡ before.slots.items
   pub laters : after.by_key.entries ≡ before.by_key.entries
+
+-- the order of keys
+abbrev pub vec_cmp : Vec ℤ Global → Vec ℤ Global → Ordering
+vec_cmp a b = slice_cmp int_cmp a.items b.items
+
+-- a place is kept at a spot
+abbrev pub KeepsAt : FirstPlaces → FirstPlaces → ℕ → Spot → Type 0
+KeepsAt before after place Nowhere = KeepsAll before after
+KeepsAt before after place (Slot slot) = (after.slots.items ≡ slice_set before.slots.items slot (Some place)) × (after.by_key.entries ≡ before.by_key.entries)
+KeepsAt before after place (ByKey key) = (after.slots.items ≡ before.slots.items) × (after.by_key.entries ≡ insert_entry vec_cmp before.by_key.entries key place)

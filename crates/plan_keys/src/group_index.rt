@@ -1,9 +1,9 @@
 // The groups of an aggregate, and where the first of each expression stands.
-ghost use Rattle.std.specs.Prelude.{◌≡◌, ◌++◌, ◌∷◌, [], IfOk, OnOk, OnErr, length, map, position};
-ghost use Rattle.plan_verdict.specs.Aggregates.{is_same_group};
+ghost use Rattle.std.specs.Prelude.{◌≡◌, [], IfOk, OnErr, length, map};
+ghost use Rattle.plan_keys.specs.Groups.{IsPlaced};
 
 use crate::first_places::FirstPlaces;
-use crate::keys::key_of;
+use crate::group_place::GroupPlace;
 use plan_leaves::Items;
 use plan_typed::Expr;
 use plan_verdict::Group;
@@ -54,33 +54,13 @@ impl GroupIndex {
         self.groups.len()
     }
 
-    /// The place of the first equal group.
-    pub fn place_of(&self, group: &Group) -> Result<Option<usize>, NoMemory>
-        ensures { IfOk result (λ place. place ≡ position (is_same_group group.now) self.now) }
-    {
-        if group.holds_subquery {
-            return Ok(None);
-        }
-        let key = key_of(self.alloc, &group.expr)?;
-        Ok(
-            self.places
-                .place_of(self.groups.as_slice(), &group.expr, &key),
-        )
-    }
-
-    /// Adds a group at the end. Where its expression stands already, the first place stays the one that is found.
-    pub fn push(&mut self, group: Group) -> Result<(), NoMemory>
-        ensures ok { OnOk result (self.new ≡ self.old ++ group ∷ []) }
+    /// The place of a group: that of the first equal one, or that behind all others, where it is put.
+    pub fn find_or_push(&mut self, group: Group) -> Result<GroupPlace, NoMemory>
+        ensures place { IfOk result (IsPlaced self.old self.new group) }
         ensures err { OnErr result (self.new ≡ self.old) }
     {
-        self.places.reserve(self.alloc, self.groups.as_slice())?;
-        let place = self.groups.len();
-        self.groups.push(group)?;
-        let added = self.places.add(self.alloc, self.groups.as_slice(), place);
-        if added.is_err() {
-            self.groups.pop();
-        }
-        added
+        self.places
+            .find_or_push(self.alloc, &mut self.groups, group)
     }
 
     /// The expressions of the groups.

@@ -6,11 +6,13 @@
 mod digests;
 mod first_places;
 mod group_index;
+mod group_place;
 mod keys;
 mod laws;
 mod numbers;
 mod parts;
 
 pub use group_index::GroupIndex;
+pub use group_place::GroupPlace;
 pub use keys::key_of;
 pub use laws::equal_keys_are_of_equal_exprs;
