@@ -1,4 +1,5 @@
 pub mod ArmLaws
+pub mod CallLaws
 pub mod CheckedLaws
 pub mod LevelLaws
 pub mod OrderLaws

@@ -12,7 +12,7 @@ use Rattle.plan_typed.specs.declared.sub.Sub.{Sub}
 use Rattle.plan_typed.specs.declared.sub.SubKind.TheVariants as sub_kinds
 use Rattle.plan_typed.specs.Types.{ty_of, columns_of}
 use Rattle.plan_verdict.specs.declared.progress.Progress.{Progress}
-use Rattle.check_exprs.specs.Arms.{if_of, switch_of, values_of}
+use Rattle.check_exprs.specs.Arms.{if_of, switch_arms, switch_of, values_of}
 use Rattle.check_exprs.specs.Column.{in_column}
 use Rattle.plan_verdict.specs.declared.rule.Rule.{Rule}
 use Rattle.plan_verdict.specs.declared.rule.Rule.TheVariants as rules
@@ -26,6 +26,24 @@ use Rattle.plan_verdict.specs.Lists.{is_empty}
 use Rattle.plan_verdict.specs.Meaning.{Scope, Expression, Arm}
 use Rattle.plan_verdict.specs.Relation.{input}
 use Rattle.plan_verdict.specs.Rels.{maybe_condition}
+
+-- what a check that was held gives where it gives something
+pub came : {A : Type 0} (result : Result (A × Progress) CheckError) (found : A × Progress) (checked : Result (A × Progress) Refusal) → result ≡ Ok found → Comes result checked → checked ≡ Ok found
+came {A} result found checked is comes = subst (λ (r : Result (A × Progress) CheckError). Comes r checked) is comes
+
+-- three checks and what follows, in one go or with what they give put together first
+pub chained : {A B C T D : Type 0} (first : Result (A × Progress) Refusal) (second : A → Checking B) (third : A → B → Checking C) (made : A → B → C → T) (next : T → Checking D)
+    → go_on first (λ a p. go_on (second a p) (λ b q. go_on (third a b q) (λ c. next (made a b c)))) ≡ go_on (go_on first (λ a p. go_on (second a p) (λ b q. go_on (third a b q) (λ c. accept (made a b c))))) next
+chained {A} {B} {C} {T} {D} (Err refusal) second third made next = refl
+chained {A} {B} {C} {T} {D} (Ok (a, p)) second third made next = at (second a p)
+  where
+    last : (b : B) → (r : Result (C × Progress) Refusal) → go_on r (λ c. next (made a b c)) ≡ go_on (go_on r (λ c. accept (made a b c))) next
+    last b (Ok (c, q)) = refl
+    last b (Err refusal) = refl
+
+    at : (r : Result (B × Progress) Refusal) → go_on r (λ b q. go_on (third a b q) (λ c. next (made a b c))) ≡ go_on (go_on r (λ b q. go_on (third a b q) (λ c. accept (made a b c)))) next
+    at (Err refusal) = refl
+    at (Ok (b, q)) = last b (third a b q)
 
 -- what is made of parts that are there
 pub parts_made : {A B C D : Type 0} (f : A → B) (g : C → D) (part_of : Option A) (xs : List C) → (is_some part_of && not (is_empty xs)) ≡ true → (is_some (option_map f part_of) && not (is_empty (map g xs))) ≡ true
@@ -64,11 +82,16 @@ module _ (scope : Scope) (p0 p1 p2 p3 : Progress) where
       rw (some, first, second) (subst (Comes result) (sym (must_part scope.relation (are_alike (values_of arms ++ other ∷ [])) rules.TypeMismatch (exprs.If arms other (type_among (values_of arms ++ other ∷ []))) p2)) finished)
 
   pub switch_finished : (ifs : List Arm) (other_arm match : Option Expression) (subject other : Expr) (literals : List Value) (values : List Expr) (result : Result (Expr × Progress) CheckError)
-      → (is_some match && not (is_empty ifs)) ≡ true → required scope match p0 ≡ Ok (subject, p1) → values_of_kind (kind_of subject) (map (λ arm. arm.literal) ifs) ≡ Ok literals
-      → in_order (map (λ arm. required scope arm.value) ifs) p1 ≡ Ok (values, p2) → otherwise scope (first_kind values) other_arm p2 ≡ Ok (other, p3)
-      → Comes result (part scope.relation (switch_of subject literals values other) p3) → Comes result (switch scope ifs other_arm match p0)
-  switch_finished ifs other_arm match subject other literals values result some first second third fourth finished =
-      rw (some, first, second, third, fourth) (subst (Comes result) (sym (must_part scope.relation (are_alike (values ++ other ∷ [])) rules.TypeMismatch (exprs.Switch subject (zip literals values) other (type_among (values ++ other ∷ []))) p3)) finished)
+      → (is_some match && not (is_empty ifs)) ≡ true → required scope match p0 ≡ Ok (subject, p1) → switch_arms scope (kind_of subject) ifs other_arm p1 ≡ Ok ((literals, values, other), p2)
+      → Comes result (part scope.relation (switch_of subject literals values other) p2) → Comes result (switch scope ifs other_arm match p0)
+  switch_finished ifs other_arm match subject other literals values result some first second finished =
+      let rest : List Value × List Expr × Expr → Checking Expr = λ parts.
+      must scope.relation (are_alike (parts.1 ++ parts.2 ∷ [])) rules.TypeMismatch >> accept (exprs.Switch subject (zip parts.0 parts.1) parts.2 (type_among (parts.1 ++ parts.2 ∷ []))) in
+      rw (some, first)
+      (subst (Comes result) (sym (chained (part scope.relation (values_of_kind (kind_of subject) (map (λ arm. arm.literal) ifs)) p1) (λ literals. in_order (map (λ arm. required scope arm.value) ifs))
+      (λ literals values. otherwise scope (first_kind values) other_arm) (λ literals values other. (literals, values, other)) rest))
+      (subst (λ (found : Result ((List Value × List Expr × Expr) × Progress) Refusal). Comes result (go_on found rest)) (sym second)
+      (subst (Comes result) (sym (must_part scope.relation (are_alike (values ++ other ∷ [])) rules.TypeMismatch (exprs.Switch subject (zip literals values) other (type_among (values ++ other ∷ []))) p2)) finished)))
 
   pub in_finished : (node : ℕ) (needle : Expression) (haystack : Option (ℕ → Checking Rel)) (expr : Expr) (rel : Rel) (result : Result (Expr × Progress) CheckError)
       → needle.check scope p0 ≡ Ok (expr, p1) → input scope.relation haystack p1 ≡ Ok (rel, p2) → Comes result (in_column scope.relation node expr rel p2) → Comes result (in_predicate scope node (needle ∷ []) haystack p0)

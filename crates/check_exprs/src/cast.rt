@@ -11,7 +11,7 @@ use crate::steps::{kind_of, refuse};
 use crate::terms::Terms;
 use plan_leaves::{Boxed, RawType};
 use plan_raw::RawExpr;
-use plan_rules::{can_cast, type_in};
+use plan_rules::{beside, can_cast, must, type_in};
 use plan_typed::Expr;
 use plan_verdict::{CheckError, Progress, Rule};
 use sub_types::Ty;
@@ -33,18 +33,16 @@ pub(crate) fn cast<D: Deeper>(
     let Some(raw) = type_ else {
         return refuse(relation, Rule::MissingField);
     };
-    let (expr, progress) = required_box(deeper, terms, progress, relation, columns, input)?;
-    let ty = type_in(relation, raw)?;
-    if !can_cast(kind_of(&expr), ty.kind) {
-        return refuse(relation, Rule::BadArguments);
-    }
-    if failure > 2 {
-        return refuse(relation, Rule::UnsupportedForm);
-    }
+    let checked = required_box(deeper, terms, progress, relation, columns, input)?;
+    let (checked, ty) = beside(checked, type_in(relation, raw))?;
+    let can_be = can_cast(kind_of(&checked.0), ty.kind);
+    let checked = must(relation, can_be, Rule::BadArguments, checked)?;
+    let (expr, progress) = must(relation, failure <= 2, Rule::UnsupportedForm, checked)?;
     let null_on_fail = failure == 1;
     let nullable = expr.ty().nullable || null_on_fail;
+    let (progress, input) = beside(progress, Boxed::new(terms.alloc(), expr))?;
     let cast = Expr::Cast {
-        input: Boxed::new(terms.alloc(), expr)?,
+        input,
         null_on_fail,
         ty: Ty {
             kind: ty.kind,

@@ -1,5 +1,5 @@
 // If-thens (Substrait `Expression.IfThen`), and the else of these and of switches.
-ghost use Rattle.std.specs.Prelude.{◌≡◌, map};
+ghost use Rattle.std.specs.Prelude.{◌≡◌, ◌++◌, ◌∷◌, [], IfOk, map};
 ghost use Rattle.check_exprs.specs.Arms as arms_spec;
 ghost use Rattle.std.specs.Option.{option_map};
 ghost use Rattle.plan_verdict.specs.Checking.{in_order};
@@ -17,10 +17,11 @@ use crate::steps::{null_of, part, refuse};
 use crate::terms::Terms;
 use plan_leaves::{Boxed, Items};
 use plan_raw::{IfClause, RawExpr};
+use plan_rules::{beside, must};
 use plan_typed::Expr;
 use plan_verdict::{CheckError, Progress, Rule};
 use std::alloc::Global;
-use sub_types::{Kind, Ty};
+use sub_types::{Kind, NoMemory, Ty};
 
 /// The clauses, then the else, and then the kinds of the values.
 pub(crate) fn if_then<D: Deeper>(
@@ -60,12 +61,17 @@ fn if_of(
 ) -> Result<Expr, CheckError>
     ensures { Agrees result relation (arms_spec.if_of arms other) }
 {
-    let slice = arms.as_slice();
-    if !arms_alike(slice, &other) {
-        return refuse(relation, Rule::TypeMismatch);
-    }
-    let ty = arms_type(slice, &other);
-    let other = Boxed::new(alloc, other)?;
+    let alike = arms_alike(arms.as_slice(), &other);
+    let (arms, other) = must(relation, alike, Rule::TypeMismatch, (arms, other))?;
+    Ok(if_among(alloc, arms, other)?)
+}
+
+/// An if-then of arms and an else whose values are of one kind.
+fn if_among(alloc: Global, arms: Items<(Expr, Expr)>, other: Expr) -> Result<Expr, NoMemory>
+    ensures { IfOk result (λ expr. expr ≡ Expr.If arms other (spec.type_among (arms_spec.values_of arms ++ other ∷ []))) }
+{
+    let ty = arms_type(arms.as_slice(), &other);
+    let (arms, other) = beside(arms, Boxed::new(alloc, other))?;
     Ok(Expr::If { arms, other, ty })
 }
 
@@ -122,7 +128,8 @@ fn clause_of<D: Deeper>(
     ensures { Comes result (spec.if_clause (option_map (checked_expr terms.now) test.now) (option_map (checked_expr terms.now) value.now) (over relation columns.now) progress) }
 {
     let (test, progress) = condition(deeper, terms, progress, relation, columns, test)?;
-    let (value, progress) = required(deeper, terms, progress, relation, columns, value)?;
+    let value = required(deeper, terms, progress, relation, columns, value);
+    let (test, (value, progress)) = beside(test, value)?;
     Ok(((test, value), progress))
 }
 

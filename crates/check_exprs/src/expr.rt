@@ -1,6 +1,7 @@
 // Expressions (Substrait `Expression`).
 ghost use Rattle.std.specs.Prelude.{List, map};
 ghost use Rattle.sub_types.specs.declared.kind.Ty.{Ty as Column};
+ghost use Rattle.check_exprs.specs.Parts as parts;
 ghost use Rattle.std.specs.Option.{option_map};
 ghost use Rattle.plan_verdict.specs.Checking as checking;
 ghost use Rattle.plan_verdict.specs.Checking.{Comes};
@@ -24,7 +25,7 @@ use crate::switch::switch;
 use crate::terms::Terms;
 use plan_leaves::{Boxed, Items};
 use plan_raw::RawExpr;
-use plan_rules::is_equal_kind;
+use plan_rules::{is_equal_kind, must};
 use plan_typed::Expr;
 use plan_verdict::{CheckError, Progress, Rule};
 use sub_types::{Kind, Ty};
@@ -186,6 +187,18 @@ pub(crate) fn required_box<D: Deeper>(
     }
 }
 
+/// What is checked, which must be of the kind.
+pub(crate) fn of_kind(
+    relation: u32,
+    kind: Kind,
+    checked: (Expr, Progress),
+) -> Result<(Expr, Progress), CheckError>
+    ensures { Comes result (parts.of_kind relation kind checked.0 checked.1) }
+{
+    let is_of_kind = is_equal_kind(kind_of(&checked.0), kind);
+    Ok(must(relation, is_of_kind, Rule::TypeMismatch, checked)?)
+}
+
 /// A condition that must be there.
 pub fn condition<D: Deeper>(
     deeper: &D,
@@ -198,11 +211,8 @@ pub fn condition<D: Deeper>(
     requires { D.is_ready deeper.now }
     ensures { Comes result (spec.condition (over relation columns.now) (option_map (checked_expr terms.now) expr.now) progress) }
 {
-    let (expr, progress) = required(deeper, terms, progress, relation, columns, expr)?;
-    if !is_equal_kind(kind_of(&expr), Kind::Bool) {
-        return refuse(relation, Rule::TypeMismatch);
-    }
-    Ok((expr, progress))
+    let checked = required(deeper, terms, progress, relation, columns, expr)?;
+    of_kind(relation, Kind::Bool, checked)
 }
 
 /// The same behind a box.
@@ -217,11 +227,8 @@ pub fn condition_box<D: Deeper>(
     requires { D.is_ready deeper.now }
     ensures { Comes result (spec.condition (over relation columns.now) (option_map (checked_expr terms.now) expr.now) progress) }
 {
-    let (expr, progress) = required_box(deeper, terms, progress, relation, columns, expr)?;
-    if !is_equal_kind(kind_of(&expr), Kind::Bool) {
-        return refuse(relation, Rule::TypeMismatch);
-    }
-    Ok((expr, progress))
+    let checked = required_box(deeper, terms, progress, relation, columns, expr)?;
+    of_kind(relation, Kind::Bool, checked)
 }
 
 /// A condition that may be absent.

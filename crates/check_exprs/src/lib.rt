@@ -25,7 +25,7 @@ pub use columns::{columns_of_each, copied, joined, types_of};
 pub use deeper::Deeper;
 pub use each::{each_of, each_of_two};
 pub use expr::{condition, condition_box, each_in, expression_by, maybe_condition, required};
-pub use function::arguments;
+pub use function::{arguments, called};
 pub use inputs::input;
 pub use progress::{next_node, next_relation, nodes_from, start};
 pub use steps::{kind_of, part, refuse};

@@ -1,5 +1,5 @@
 // Whether a value is one of several (Substrait `Expression.SingularOrList`).
-ghost use Rattle.std.specs.Prelude.{map};
+ghost use Rattle.std.specs.Prelude.{◌≡◌, ◌∷◌, IfOk, map};
 ghost use Rattle.std.specs.Option.{option_map};
 ghost use Rattle.plan_verdict.specs.Checking.{in_order};
 ghost use Rattle.plan_verdict.specs.Checking.{Comes};
@@ -10,15 +10,16 @@ ghost use Rattle.plan_verdict.specs.Verdict.{checked_expr};
 use crate::arms::some_nullable;
 use crate::deeper::Deeper;
 use crate::each::each_of;
-use crate::expr::required_box;
-use crate::steps::{kind_of, refuse};
+use crate::expr::{of_kind, required_box};
+use crate::steps::kind_of;
 use crate::terms::Terms;
 use plan_leaves::{Boxed, Items};
 use plan_raw::RawExpr;
-use plan_rules::is_equal_kind;
+use plan_rules::beside;
 use plan_typed::Expr;
-use plan_verdict::{CheckError, Progress, Rule};
-use sub_types::{Kind, Ty};
+use plan_verdict::{CheckError, Progress};
+use std::alloc::Global;
+use sub_types::{Kind, NoMemory, Ty};
 
 /// A value and options of its kind.
 pub(crate) fn singular_or_list<D: Deeper>(
@@ -35,19 +36,26 @@ pub(crate) fn singular_or_list<D: Deeper>(
 {
     let (value, progress) = required_box(deeper, terms, progress, relation, columns, value)?;
     let kind = kind_of(&value);
-    let (options, progress) = options_of_kind(
-        deeper, terms, progress, relation, columns, kind, options,
-    )?;
+    let options = options_of_kind(deeper, terms, progress, relation, columns, kind, options);
+    let (value, (options, progress)) = beside(value, options)?;
+    let (progress, checked) = beside(progress, one_of(terms.alloc(), value, options))?;
+    Ok((checked, progress))
+}
+
+/// Whether this value is one of these options.
+fn one_of(alloc: Global, value: Expr, options: Items<Expr>) -> Result<Expr, NoMemory>
+    ensures { IfOk result (λ expr. expr ≡ Expr.OneOf value options (spec.type_with Kind.Bool (spec.some_nullable (value ∷ options)))) }
+{
     let nullable = value.ty().nullable || some_nullable(options.as_slice());
-    let checked = Expr::OneOf {
-        value: Boxed::new(terms.alloc(), value)?,
+    let (options, value) = beside(options, Boxed::new(alloc, value))?;
+    Ok(Expr::OneOf {
+        value,
         options,
         ty: Ty {
             kind: Kind::Bool,
             nullable,
         },
-    };
-    Ok((checked, progress))
+    })
 }
 
 /// Each option, which is of this kind.
@@ -80,9 +88,6 @@ fn option_of_kind<D: Deeper>(
     requires { D.is_ready deeper.now }
     ensures { Comes result (spec.option_of_kind (over relation columns.now) kind (checked_expr terms.now option.now) progress) }
 {
-    let (expr, progress) = deeper.expression(terms, progress, relation, columns, option)?;
-    if !is_equal_kind(kind_of(&expr), kind) {
-        return refuse(relation, Rule::TypeMismatch);
-    }
-    Ok((expr, progress))
+    let checked = deeper.expression(terms, progress, relation, columns, option)?;
+    of_kind(relation, kind, checked)
 }

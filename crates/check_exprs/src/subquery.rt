@@ -1,12 +1,15 @@
 // Subqueries (Substrait `Expression.Subquery`).
-ghost use Rattle.std.specs.Prelude.{◌≡◌, ◌∷◌, ◌||◌, [], IfOk, map};
+ghost use Rattle.std.specs.Prelude.{◌≡◌, ◌∷◌, ◌||◌, [], true, false, IfErr, IfOk, map};
+ghost use Rattle.func_table.specs.Kinds.{is_equal};
 ghost use Rattle.plan_typed.specs.Types.{ty_of};
-ghost use Rattle.check_exprs.specs.Column.{in_column as in_column_as};
+ghost use Rattle.check_exprs.specs.Column.{in_column as in_column_as, in_only_column as in_only_column_as};
 ghost use Rattle.std.specs.Option.{option_map};
 ghost use Rattle.plan_verdict.specs.Checking.{Comes};
 ghost use Rattle.plan_verdict.specs.Exprs as spec;
 ghost use Rattle.plan_verdict.specs.Rels.{over};
 ghost use Rattle.plan_verdict.specs.Verdict.{checked_expr, checked_rel};
+ghost use Rattle.plan_verdict.specs.declared.rule.CheckError.TheVariants.{Refused};
+ghost use Rattle.plan_verdict.specs.declared.rule.Rule.TheVariants.{TypeMismatch};
 
 use crate::arms::{single, single_of};
 use crate::deeper::Deeper;
@@ -16,6 +19,7 @@ use crate::steps::{kind_of, null_of, refuse};
 use crate::terms::Terms;
 use plan_leaves::{Boxed, Items};
 use plan_raw::{RawExpr, RawRel};
+use plan_rules::beside;
 use plan_typed::{Expr, Hole, Rel, Sub, SubKind};
 use plan_verdict::{CheckError, Progress, Rule};
 use std::alloc::Global;
@@ -38,9 +42,8 @@ pub(crate) fn scalar<D: Deeper>(
         return refuse(relation, Rule::UnsupportedForm);
     }
     let (rel, progress) = input(deeper, terms, progress, relation, written)?;
-    let Some(column) = single(rel.columns.as_slice()) else {
-        return refuse(relation, Rule::TypeMismatch);
-    };
+    let column = only_column(relation, rel.columns.as_slice());
+    let ((rel, progress), column) = beside((rel, progress), column)?;
     let hole = Hole { relation, node };
     let progress = done(
         progress,
@@ -51,6 +54,17 @@ pub(crate) fn scalar<D: Deeper>(
         },
     )?;
     Ok((null_of(column.kind), progress))
+}
+
+/// The one column.
+fn only_column(relation: u32, columns: &[Ty]) -> Result<Ty, CheckError>
+    ensures column { IfOk result (λ column. columns.now ≡ column ∷ []) }
+    ensures refused { IfErr result (λ error. (spec.is_single columns.now ≡ false) × (error ≡ Refused relation TypeMismatch)) }
+{
+    match single(columns) {
+        Some(column) => Ok(column),
+        None => refuse(relation, Rule::TypeMismatch),
+    }
 }
 
 /// Whether a value is one of a relation of one column. A list without options stands in the place.
@@ -95,7 +109,8 @@ fn in_relation<D: Deeper>(
     ensures { Comes result (spec.in_predicate (over relation columns.now) node (checked_expr terms.now needle.now ∷ []) (option_map (checked_rel terms.now) haystack.now) progress) }
 {
     let (value, progress) = deeper.expression(terms, progress, relation, columns, needle)?;
-    let (rel, progress) = input(deeper, terms, progress, relation, haystack)?;
+    let rel = input(deeper, terms, progress, relation, haystack);
+    let (value, (rel, progress)) = beside(value, rel)?;
     in_column(terms.alloc(), progress, relation, node, value, rel)
 }
 
@@ -110,21 +125,44 @@ fn in_column(
 ) -> Result<(Expr, Progress), CheckError>
     ensures { Comes result (in_column_as relation node value rel progress) }
 {
-    let Some(column) = single_of(rel.columns.as_slice(), kind_of(&value)) else {
-        return refuse(relation, Rule::TypeMismatch);
-    };
-    let hole = Hole { relation, node };
-    let progress = done(
-        progress,
-        Sub {
-            rel,
-            kind: SubKind::In,
-            hole,
-        },
-    )?;
+    let column = column_of_kind(relation, rel.columns.as_slice(), kind_of(&value));
+    let ((value, rel, progress), column) = beside((value, rel, progress), column)?;
+    in_only_column(alloc, progress, relation, node, value, rel, column)
+}
+
+/// Whether this value is one of this only column of this relation.
+fn in_only_column(
+    alloc: Global,
+    progress: Progress,
+    relation: u32,
+    node: u32,
+    value: Expr,
+    rel: Rel,
+    column: Ty,
+) -> Result<(Expr, Progress), CheckError>
+    ensures { Comes result (in_only_column_as relation node value rel column progress) }
+{
     let ty = truth_of(&value, column);
-    let checked = one_of_none(alloc, value, ty)?;
+    let hole = Hole { relation, node };
+    let sub = Sub {
+        rel,
+        kind: SubKind::In,
+        hole,
+    };
+    let (value, progress) = beside(value, done(progress, sub))?;
+    let (progress, checked) = beside(progress, one_of_none(alloc, value, ty))?;
     Ok((checked, progress))
+}
+
+/// The one column, which is of the kind.
+fn column_of_kind(relation: u32, columns: &[Ty], kind: Kind) -> Result<Ty, CheckError>
+    ensures column { IfOk result (λ column. (columns.now ≡ column ∷ []) × (is_equal column.kind kind ≡ true)) }
+    ensures refused { IfErr result (λ error. (spec.is_single_of kind columns.now ≡ false) × (error ≡ Refused relation TypeMismatch)) }
+{
+    match single_of(columns, kind) {
+        Some(column) => Ok(column),
+        None => refuse(relation, Rule::TypeMismatch),
+    }
 }
 
 /// The type of what says whether a value is one of a column's.

@@ -1,5 +1,6 @@
 // Switches (Substrait `Expression.SwitchExpression`).
-ghost use Rattle.std.specs.Prelude.{◌≡◌, ◌&&◌, is_some, map, not};
+ghost use Rattle.std.specs.Prelude.{◌≡◌, ◌++◌, ◌∷◌, ◌&&◌, [], IfOk, is_some, map, not};
+ghost use Rattle.std.specs.List.{zip as zip_as};
 ghost use Rattle.plan_verdict.specs.Lists.{is_empty};
 ghost use Rattle.check_exprs.specs.Arms as arms;
 ghost use Rattle.std.specs.Option.{option_map};
@@ -17,13 +18,13 @@ use crate::each::each_of;
 use crate::expr::{required, required_box};
 use crate::steps::{kind_of, part, refuse};
 use crate::terms::Terms;
-use plan_leaves::{Boxed, Items, RawLiteral};
+use plan_leaves::{Boxed, Items, RawLiteral, zip};
 use plan_raw::{IfValue, RawExpr};
-use plan_rules::{is_equal_kind, literal_in};
+use plan_rules::{beside, is_equal_kind, literal_in, must};
 use plan_typed::Expr;
 use plan_verdict::{CheckError, Progress, Rule};
 use std::alloc::Global;
-use sub_types::{Kind, Ty, Value};
+use sub_types::{Kind, NoMemory, Ty, Value};
 
 /// The subject, then each literal, then each value, then the else, and then the kinds of the values.
 pub(crate) fn switch<D: Deeper>(
@@ -43,14 +44,34 @@ pub(crate) fn switch<D: Deeper>(
         return refuse(relation, Rule::MissingField);
     }
     let (subject, progress) = required_box(deeper, terms, progress, relation, columns, match_)?;
-    let literals = literals(terms, relation, kind_of(&subject), ifs)?;
-    let (values, progress) = values(deeper, terms, progress, relation, columns, ifs)?;
-    let kind = values_kind(&values);
-    let (other, progress) = otherwise(deeper, terms, progress, relation, columns, kind, else_)?;
+    let kind = kind_of(&subject);
+    let found = switch_arms(deeper, terms, progress, relation, columns, kind, ifs, else_);
+    let (subject, ((literals, values, other), progress)) = beside(subject, found)?;
     part(
         switch_of(terms.alloc(), relation, subject, literals, values, other),
         progress,
     )
+}
+
+/// The literals, which are of the subject's kind, the values and the else.
+fn switch_arms<D: Deeper>(
+    deeper: &D,
+    terms: &Terms<'_>,
+    progress: Progress,
+    relation: u32,
+    columns: &[Ty],
+    kind: Kind,
+    ifs: &[IfValue],
+    else_: &Option<Boxed<RawExpr>>,
+) -> Result<((Items<Value>, Items<Expr>, Expr), Progress), CheckError>
+    requires { D.is_ready deeper.now }
+    ensures { Comes result (arms.switch_arms (over relation columns.now) kind (map (checked_arm terms.now) ifs.now) (option_map (checked_expr terms.now) else_.now) progress) }
+{
+    let literals = literals(terms, relation, kind, ifs)?;
+    let (values, progress) = values(deeper, terms, progress, relation, columns, ifs)?;
+    let kind = values_kind(&values);
+    let (other, progress) = otherwise(deeper, terms, progress, relation, columns, kind, else_)?;
+    Ok(((literals, values, other), progress))
 }
 
 /// The kind of the first value.
@@ -71,14 +92,25 @@ fn switch_of(
 ) -> Result<Expr, CheckError>
     ensures { Agrees result relation (arms.switch_of subject literals values other) }
 {
-    let slice = values.as_slice();
-    if !are_alike(slice, &other) {
-        return refuse(relation, Rule::TypeMismatch);
-    }
-    let ty = type_among(slice, &other);
-    let arms = zipped(alloc, literals, values)?;
-    let subject = Boxed::new(alloc, subject)?;
-    let other = Boxed::new(alloc, other)?;
+    let alike = are_alike(values.as_slice(), &other);
+    let (subject, other) = must(relation, alike, Rule::TypeMismatch, (subject, other))?;
+    Ok(switch_among(alloc, subject, literals, values, other)?)
+}
+
+/// A switch of a subject, literals with their values, and an else; the values are of one kind.
+fn switch_among(
+    alloc: Global,
+    subject: Expr,
+    literals: Items<Value>,
+    values: Items<Expr>,
+    other: Expr,
+) -> Result<Expr, NoMemory>
+    ensures { IfOk result (λ expr. expr ≡ Expr.Switch subject (zip_as literals values) other (spec.type_among (values ++ other ∷ []))) }
+{
+    let ty = type_among(values.as_slice(), &other);
+    let arms = zipped(alloc, literals, values);
+    let boxes = zip(Boxed::new(alloc, subject), Boxed::new(alloc, other));
+    let (arms, (subject, other)) = zip(arms, boxes)?;
     Ok(Expr::Switch {
         subject,
         arms,
