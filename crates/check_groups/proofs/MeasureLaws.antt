@@ -1,23 +1,26 @@
--- What the checks of measures and aggregates give, by what each step gives.
-use Rattle.std.proofs.Common.{◌≡◌, sym, refl, ℕ, true, false, Option, Some, List, ◌&&◌, not, map, is_none, subst, Result, Ok, Err}
-use Rattle.plan_leaves.specs.declared.common.RelCommon.{RelCommon}
+-- What the checks of measures give, by what each step gives.
+use Rattle.std.proofs.Common.{◌≡◌, ◌∙◌, ap, sym, refl, ℕ, true, false, Option, Some, List, ◌&&◌, not, map, is_none, subst, Result, Ok, Err}
+use Rattle.plan_leaves.specs.declared.options.FunctionOption.{FunctionOption}
+use Rattle.plan_leaves.specs.declared.types.RawType.{RawType}
 use Rattle.plan_typed.specs.declared.expr.Expr.{Expr}
-use Rattle.plan_typed.specs.declared.rel.Rel.{Rel}
-use Rattle.plan_typed.specs.Types.{columns_of}
+use Rattle.plan_typed.specs.declared.rel.SetMeasure.{SetMeasure}
+use Rattle.plan_typed.specs.declared.rel.TypedMeasure.{TypedMeasure}
+use Rattle.plan_typed.specs.Types.{ty_of}
+use Rattle.func_table.specs.declared.row.Class.TheVariants as classes
+use Rattle.plan_verdict.specs.declared.call.Call.{Call}
 use Rattle.plan_verdict.specs.declared.progress.Progress.{Progress}
 use Rattle.plan_verdict.specs.declared.rule.Rule.TheVariants as rules
 use Rattle.plan_verdict.specs.declared.rule.CheckError.{CheckError}
 use Rattle.plan_verdict.specs.declared.rule.CheckError.TheVariants as errors
-use Rattle.plan_verdict.specs.Checking.{Checking, Comes, in_order, part}
-use Rattle.plan_verdict.specs.Columns.{finished_in}
-use Rattle.plan_typed.specs.declared.rel.SetMeasure.{SetMeasure}
-use Rattle.plan_verdict.specs.declared.groups.Groups.{Groups}
-use Rattle.plan_verdict.specs.Aggregates.{groups_in, measure_in, aggregate_over, aggregate_op, aggregate_columns}
-use Rattle.plan_typed.specs.declared.rel.TypedMeasure.{TypedMeasure}
+use Rattle.plan_verdict.specs.Aggregates.{first_of, measure_in, measured}
+use Rattle.plan_verdict.specs.Calls.{call_in, named_in}
+use Rattle.plan_verdict.specs.Checking.{Comes, Refusal, accept, go_on, part}
+use Rattle.plan_verdict.specs.Exprs.{Terms, arguments}
+use Rattle.plan_verdict.specs.Meaning.{Scope, Aggregation, Expression}
+use Rattle.plan_verdict.specs.Rels.{maybe_condition}
+use Rattle.check_exprs.specs.Parts.{called}
+use Rattle.check_exprs.proofs.StepLaws.{chained, must_part}
 use Rattle.check_groups.specs.Measures.{set_measure}
-use Rattle.plan_verdict.specs.Meaning.{Scope, Aggregation, Expression, Sets}
-use Rattle.plan_verdict.specs.Rels.{maybe_condition, over}
-use Rattle.check_exprs.proofs.StepLaws.{must_part}
 
 module _ (scope : Scope) (p0 p1 p2 p3 : Progress) where
   -- a measure of a function that is there
@@ -39,14 +42,20 @@ module _ (scope : Scope) (p0 p1 p2 p3 : Progress) where
     measure_finished kept measure result form first second finished =
         rw (form, first, second) (subst (Comes result) (sym (must_part scope.relation (not (function.is_distinct && is_none measure.arg)) rules.BadArguments (record { measure = measure; distinct = function.is_distinct }) p2)) finished)
 
-module _ (number : ℕ) (common : Option RelCommon) (p0 p1 p2 : Progress) (rel : Rel) where
-  module _ (groupings : List Sets) (measures : List (Scope → Checking SetMeasure)) (expressions : List Expression) (found : Groups) where
-    pub aggregate_refused : (error : CheckError) → groups_in (over number (columns_of rel)) expressions groupings p0 ≡ Ok (found, p1)
-        → Comes {A = List SetMeasure} (Err error) (in_order (map (λ one. one (over number (columns_of rel))) measures) p1) → Comes {A = Rel} (Err error) (aggregate_over number common rel groupings measures expressions p0)
-    aggregate_refused (errors.Refused relation rule) first refused = rw (first, refused) refl
-    aggregate_refused errors.NoMemory first refused = tt
+-- the measure of a call with its arguments, under this filter
+abbrev pub measure_with : Option Expr → Call × List Expr → TypedMeasure
+measure_with kept both = record { func = both.0.func; arg = first_of both.1; filter = kept; ty = both.0.ty }
 
-    pub aggregate_finished : (checked : List SetMeasure) (result : Result (Rel × Progress) CheckError) → groups_in (over number (columns_of rel)) expressions groupings p0 ≡ Ok (found, p1)
-        → in_order (map (λ one. one (over number (columns_of rel))) measures) p1 ≡ Ok (checked, p2)
-        → Comes result (part number (finished_in number common (aggregate_op rel found checked) (aggregate_columns found checked)) p2) → Comes result (aggregate_over number common rel groupings measures expressions p0)
-    aggregate_finished checked result first second finished = rw (first, second) finished
+-- a measure by its call
+module _ (terms : Terms) (reference : ℕ) (output : Option RawType) (written : List (Option Expression)) (options : List FunctionOption) (scope : Scope) (kept : Option Expr) (p0 p1 : Progress) where
+  by_call : measured terms reference output written options scope kept p0 ≡ go_on (called terms scope classes.Aggregate reference output written options p0) (λ both. accept (measure_with kept both))
+  by_call =
+      chained (part scope.relation (named_in terms.declared classes.Aggregate reference) p0) (λ named. arguments scope written)
+      (λ named args. part scope.relation (call_in named classes.Aggregate (map ty_of args) output options)) (λ named args call. (call, args)) (λ both. accept (measure_with kept both))
+
+  pub called_refused : (error : CheckError) → Comes {A = Call × List Expr} (Err error) (called terms scope classes.Aggregate reference output written options p0) → Comes {A = TypedMeasure} (Err error) (measured terms reference output written options scope kept p0)
+  called_refused (errors.Refused relation rule) refused = by_call ∙ ap (λ (found : Result ((Call × List Expr) × Progress) Refusal). go_on found (λ both. accept (measure_with kept both))) refused
+  called_refused errors.NoMemory refused = tt
+
+  pub called_found : (both : Call × List Expr) → called terms scope classes.Aggregate reference output written options p0 ≡ Ok (both, p1) → measured terms reference output written options scope kept p0 ≡ Ok (measure_with kept both, p1)
+  called_found both found = by_call ∙ ap (λ (found : Result ((Call × List Expr) × Progress) Refusal). go_on found (λ both. accept (measure_with kept both))) found

@@ -2,14 +2,15 @@
 ghost use Rattle.std.specs.Prelude.{◌≡◌, ◌<◌, ◌++◌, ◌||◌, ◌==◌, ℕ, IfOk, OnOk, length, map, not, replicate, slice_index};
 ghost use Rattle.std.specs.List.{enumerate_from, list_all, list_any};
 ghost use Rattle.plan_typed.specs.Types.{ty_of};
+ghost use Rattle.plan_typed.specs.declared.rel.Op.TheVariants as ops;
 ghost use Rattle.plan_typed.specs.declared.rel.SetMeasure.{SetMeasure as Measured};
 ghost use Rattle.check_groups.specs.Counts.{counted};
 ghost use Rattle.plan_verdict.specs.Aggregates as spec;
 ghost use Rattle.plan_verdict.specs.Checking.{Agrees};
 ghost use Rattle.plan_verdict.specs.Columns.{finished_in as finished_as};
 
-use plan_leaves::{Boxed, Items, RelCommon};
-use plan_rules::finished_in;
+use plan_leaves::{Boxed, Items, RelCommon, zip};
+use plan_rules::{beside, finished_in};
 use plan_typed::{Expr, Op, Rel, SetMeasure, TypedMeasure};
 use plan_verdict::{CheckError, Groups};
 use std::alloc::Global;
@@ -132,9 +133,21 @@ pub(crate) fn aggregate_op(
             measures,
         });
     }
-    let measures = each_measure(alloc, measures)?;
+    Ok(one_set_op(alloc, rel, groups, measures)?)
+}
+
+/// An aggregate over one set of all groups, with measures over all values.
+fn one_set_op(
+    alloc: Global,
+    rel: Rel,
+    groups: Items<Expr>,
+    measures: Items<SetMeasure>,
+) -> Result<Op, NoMemory>
+    ensures { IfOk result (λ op. op ≡ ops.Aggregate rel groups (map (λ (one : Measured). one.measure) measures)) }
+{
+    let (input, measures) = zip(Boxed::new(alloc, rel), each_measure(alloc, measures))?;
     Ok(Op::Aggregate {
-        input: Boxed::new(alloc, rel)?,
+        input,
         groups,
         measures,
     })
@@ -168,7 +181,8 @@ pub(crate) fn aggregate_of(
 ) -> Result<Rel, CheckError>
     ensures { Agrees result number (finished_as number common.now (spec.aggregate_op input found measures) (spec.aggregate_columns found measures)) }
 {
-    let columns = aggregate_columns(alloc, &found, measures.as_slice())?;
+    let columns = aggregate_columns(alloc, &found, measures.as_slice());
+    let (input, columns) = beside(input, columns)?;
     let op = aggregate_op(alloc, input, found, measures)?;
     finished_in(alloc, number, common, op, columns.as_slice())
 }

@@ -1,6 +1,8 @@
 // Aggregates (Substrait `AggregateRel`).
 ghost use Rattle.std.specs.Prelude.{map};
 ghost use Rattle.std.specs.Option.{option_map};
+ghost use Rattle.plan_typed.specs.Types.{columns_of};
+ghost use Rattle.check_groups.specs.Over.{aggregate_with as aggregate_with_as};
 ghost use Rattle.plan_verdict.specs.Aggregates as spec;
 ghost use Rattle.plan_verdict.specs.Checking.{Comes, in_order};
 ghost use Rattle.plan_verdict.specs.Rels.{over};
@@ -9,11 +11,12 @@ ghost use Rattle.plan_verdict.specs.Verdict.{checked_expr, checked_grouping, che
 use crate::aggregate_columns::aggregate_of;
 use crate::groups::groups_in;
 use crate::measure::measure;
-use check_exprs::{Deeper, Terms, each_of, input, part, refuse};
+use check_exprs::{Deeper, Terms, each_of, input, part};
 use plan_leaves::{Boxed, Items, RelCommon};
 use plan_raw::{Grouping, Measure, RawExpr, RawRel};
+use plan_rules::{beside, must};
 use plan_typed::{Rel, SetMeasure};
-use plan_verdict::{CheckError, Progress, Rule};
+use plan_verdict::{CheckError, Groups, Progress, Rule};
 use sub_types::Ty;
 
 /// The most groupings of an aggregate.
@@ -34,10 +37,9 @@ pub fn aggregate<D: Deeper>(
     requires { D.is_ready deeper.now }
     ensures { Comes result (spec.aggregate number common.now (option_map (checked_rel terms.now) written.now) (map (checked_grouping terms.now) groupings.now) (map (checked_measure terms.now) measures.now) (map (checked_expr terms.now) expressions.now) progress) }
 {
-    let (rel, progress) = input(deeper, terms, progress, number, written)?;
-    if groupings.len() > MAX_GROUPINGS {
-        return refuse(number, Rule::TooMany);
-    }
+    let checked = input(deeper, terms, progress, number, written)?;
+    let few = groupings.len() <= MAX_GROUPINGS;
+    let (rel, progress) = must(number, few, Rule::TooMany, checked)?;
     aggregate_over(
         deeper,
         terms,
@@ -66,21 +68,86 @@ fn aggregate_over<D: Deeper>(
     requires { D.is_ready deeper.now }
     ensures { Comes result (spec.aggregate_over number common.now rel (map (checked_grouping terms.now) groupings.now) (map (checked_measure terms.now) measures.now) (map (checked_expr terms.now) expressions.now) progress) }
 {
-    let columns = rel.columns.as_slice();
-    let (found, progress) = groups_in(
+    let found = groups_over(
         deeper,
         terms,
         progress,
         number,
-        columns,
+        &rel,
         expressions,
         groupings,
-    )?;
-    let columns = rel.columns.as_slice();
-    let (checked, progress) = each_measure(deeper, terms, progress, number, columns, measures)?;
+    );
+    let (rel, (found, progress)) = beside(rel, found)?;
+    aggregate_with(
+        deeper, terms, progress, number, common, rel, found, measures,
+    )
+}
+
+/// The groups and sets over the columns of a relation.
+fn groups_over<D: Deeper>(
+    deeper: &D,
+    terms: &Terms<'_>,
+    progress: Progress,
+    number: u32,
+    rel: &Rel,
+    expressions: &[RawExpr],
+    groupings: &[Grouping],
+) -> Result<(Groups, Progress), CheckError>
+    requires { D.is_ready deeper.now }
+    ensures { Comes result (spec.groups_in (over number (columns_of rel.now)) (map (checked_expr terms.now) expressions.now) (map (checked_grouping terms.now) groupings.now) progress) }
+{
+    groups_in(
+        deeper,
+        terms,
+        progress,
+        number,
+        rel.columns.as_slice(),
+        expressions,
+        groupings,
+    )
+}
+
+/// The measures over this input, and these groups.
+fn aggregate_with<D: Deeper>(
+    deeper: &D,
+    terms: &Terms<'_>,
+    progress: Progress,
+    number: u32,
+    common: &Option<RelCommon>,
+    rel: Rel,
+    found: Groups,
+    measures: &[Measure],
+) -> Result<(Rel, Progress), CheckError>
+    requires { D.is_ready deeper.now }
+    ensures { Comes result (aggregate_with_as number common.now rel found (map (checked_measure terms.now) measures.now) progress) }
+{
+    let checked = measures_over(deeper, terms, progress, number, &rel, measures);
+    let ((rel, found), (checked, progress)) = beside((rel, found), checked)?;
     part(
         aggregate_of(terms.alloc(), number, common, rel, found, checked),
         progress,
+    )
+}
+
+/// The measures over the columns of a relation.
+fn measures_over<D: Deeper>(
+    deeper: &D,
+    terms: &Terms<'_>,
+    progress: Progress,
+    number: u32,
+    rel: &Rel,
+    measures: &[Measure],
+) -> Result<(Items<SetMeasure>, Progress), CheckError>
+    requires { D.is_ready deeper.now }
+    ensures { Comes result (in_order (map (λ one. one (over number (columns_of rel.now))) (map (checked_measure terms.now) measures.now)) progress) }
+{
+    each_measure(
+        deeper,
+        terms,
+        progress,
+        number,
+        rel.columns.as_slice(),
+        measures,
     )
 }
 

@@ -59,13 +59,3 @@ pub(crate) fn references_of(
     }
     Ok(sets)
 }
-
-/// A place as it stands in a set. One that doesn't fit finds no memory.
-pub(crate) fn place(at: usize) -> Result<u32, NoMemory>
-    ensures { IfOk result (λ place. place ≡ at) }
-{
-    match u32::try_from(at) {
-        Ok(place) => Ok(place),
-        Err(_) => Err(NoMemory),
-    }
-}

@@ -6,9 +6,9 @@ ghost use Rattle.plan_verdict.specs.Checking.{Comes};
 ghost use Rattle.plan_verdict.specs.Rels.{over};
 ghost use Rattle.plan_verdict.specs.Verdict.{checked_expr, checked_grouping};
 
-use crate::group_places::{no_groups, one_set, place, references_of};
+use crate::group_places::{no_groups, one_set, references_of};
 use check_exprs::{Deeper, Terms, each_in, nodes_from};
-use plan_keys::GroupIndex;
+use plan_keys::{GroupIndex, GroupPlace};
 use plan_leaves::Items;
 use plan_raw::{Grouping, RawExpr};
 use plan_rules::sets_of_places;
@@ -216,12 +216,9 @@ fn placed(
 ) -> Result<((GroupIndex, u32), Progress), CheckError>
     ensures { Comes result (spec.placed groups node group progress) }
 {
-    if let Some(at) = groups.place_of(&group)? {
-        let at = place(at)?;
-        return Ok(((groups, at), nodes_from(progress, node)));
-    }
-    let at = place(groups.len())?;
     let mut groups = groups;
-    groups.push(group)?;
-    Ok(((groups, at), progress))
+    match groups.find_or_push(group)? {
+        GroupPlace::Found(place) => Ok(((groups, place), nodes_from(progress, node))),
+        GroupPlace::New(place) => Ok(((groups, place), progress)),
+    }
 }

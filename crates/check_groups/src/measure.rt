@@ -9,11 +9,11 @@ ghost use Rattle.plan_verdict.specs.Rels as rels;
 ghost use Rattle.plan_verdict.specs.Rels.{over};
 ghost use Rattle.plan_verdict.specs.Verdict.{checked_argument, checked_expr, checked_function, checked_measure};
 
-use check_exprs::{Deeper, Terms, arguments, condition, part, refuse, types_of};
+use check_exprs::{Deeper, Terms, called, condition, part, refuse};
 use func_table::Class;
 use plan_leaves::{FunctionOption, Items, RawType};
 use plan_raw::{AggregateFunction, FunctionArgument, Measure, RawExpr};
-use plan_rules::call_in;
+use plan_rules::{beside, must};
 use plan_typed::{Expr, SetMeasure, TypedMeasure};
 use plan_verdict::{CheckError, Progress, Rule};
 use sub_types::Ty;
@@ -87,9 +87,8 @@ fn measure_by<D: Deeper>(
 fn set_measure(number: u32, measure: TypedMeasure, distinct: bool) -> Result<SetMeasure, CheckError>
     ensures { Agrees result number (set_measure_as measure distinct) }
 {
-    if distinct && measure.arg.is_none() {
-        return refuse(number, Rule::BadArguments);
-    }
+    let lacks_argument = distinct && measure.arg.is_none();
+    let measure = must(number, !lacks_argument, Rule::BadArguments, measure)?;
     Ok(SetMeasure { measure, distinct })
 }
 
@@ -175,24 +174,23 @@ fn measured_by<D: Deeper>(
     requires { D.is_ready deeper.now }
     ensures { Comes result (spec.measured terms.now reference output.now (map (checked_argument terms.now) written.now) options.now (over number columns.now) kept progress) }
 {
-    let named = terms
-        .declared()
-        .named_in(number, Class::Aggregate, reference)?;
-    let (args, progress) = arguments(deeper, terms, progress, number, columns, written)?;
-    let types = types_of(terms.alloc(), args.as_slice())?;
-    let call = call_in(
-        terms.alloc(),
+    let called = called(
+        deeper,
+        terms,
+        progress,
         number,
-        &named,
+        columns,
         Class::Aggregate,
-        types.as_slice(),
+        reference,
         output,
+        written,
         options,
-    )?;
+    );
+    let (filter, ((call, args), progress)) = beside(kept, called)?;
     let checked = TypedMeasure {
         func: call.func,
         arg: first_of(args),
-        filter: kept,
+        filter,
         ty: call.ty,
     };
     Ok((checked, progress))
