@@ -7,12 +7,11 @@ ghost use Rattle.plan_verdict.specs.Checking.{Agrees, Comes};
 ghost use Rattle.plan_verdict.specs.Rels as spec;
 ghost use Rattle.plan_verdict.specs.Verdict.{checked_count, checked_expr, checked_offset, checked_rel};
 
-use crate::held::beside;
 use crate::made::fetch_of;
 use check_exprs::{Deeper, Terms, input, part, refuse};
 use plan_leaves::{Boxed, RelCommon};
 use plan_raw::{RawCount, RawExpr, RawOffset, RawRel};
-use plan_rules::{amount_of, rows_skipped, rows_taken};
+use plan_rules::{amount_of, beside, rows_skipped, rows_taken};
 use plan_typed::Rel;
 use plan_verdict::{CheckError, Progress, Rule};
 

@@ -9,11 +9,11 @@ ghost use Rattle.plan_verdict.specs.Exprs.{condition};
 ghost use Rattle.plan_verdict.specs.Rels as spec;
 ghost use Rattle.plan_verdict.specs.Verdict.{checked_expr, checked_rel};
 
-use crate::held::beside;
 use crate::made::{filter_of, project_of};
 use check_exprs::{Deeper, Terms, condition_box, each_in, input, part};
 use plan_leaves::{Boxed, Items, RelCommon};
 use plan_raw::{RawExpr, RawRel};
+use plan_rules::beside;
 use plan_typed::{Expr, Rel};
 use plan_verdict::{CheckError, Progress};
 

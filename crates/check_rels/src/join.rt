@@ -9,12 +9,11 @@ ghost use Rattle.plan_verdict.specs.Rels as spec;
 ghost use Rattle.plan_verdict.specs.Verdict.{checked_expr, checked_rel};
 ghost use Rattle.plan_verdict.specs.declared.rule.Rule.TheVariants as rules;
 
-use crate::held::beside;
 use crate::made::{cross_of, join_of};
 use check_exprs::{Deeper, Terms, condition_box, input, joined, maybe_condition, part, refuse};
 use plan_leaves::{Boxed, RelCommon};
 use plan_raw::{RawExpr, RawRel};
-use plan_rules::{join_columns, join_kind};
+use plan_rules::{beside, join_columns, join_kind};
 use plan_typed::{Expr, JoinKind, Rel};
 use plan_verdict::{CheckError, Progress, Rule};
 

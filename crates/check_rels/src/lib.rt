@@ -3,7 +3,6 @@
 
 mod fetch;
 mod filter;
-mod held;
 mod join;
 mod made;
 mod read;

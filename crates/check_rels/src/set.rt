@@ -8,12 +8,11 @@ ghost use Rattle.plan_verdict.specs.Sets as sets;
 ghost use Rattle.check_rels.specs.SetParts as parts;
 ghost use Rattle.plan_verdict.specs.Verdict.{checked_rel};
 
-use crate::held::beside;
 use crate::rel::inputs;
 use check_exprs::{Deeper, Terms, columns_of_each, part, refuse};
 use plan_leaves::{Items, RelCommon};
 use plan_raw::RawRel;
-use plan_rules::{are_of_kinds, finished_in, set_columns, set_op};
+use plan_rules::{are_of_kinds, beside, finished_in, set_columns, set_op};
 use plan_typed::{Op, Rel, SetOp};
 use plan_verdict::{CheckError, Progress, Rule};
 use std::alloc::Global;

@@ -8,12 +8,11 @@ ghost use Rattle.plan_verdict.specs.Checking.{Comes};
 ghost use Rattle.plan_verdict.specs.Rels as spec;
 ghost use Rattle.plan_verdict.specs.Verdict.{checked_expr, checked_rel, checked_sort};
 
-use crate::held::beside;
 use crate::made::sort_of;
 use check_exprs::{Deeper, Terms, each_of, input, part, refuse, required};
 use plan_leaves::{Boxed, Items, RelCommon};
 use plan_raw::{RawExpr, RawRel, SortField};
-use plan_rules::direction_of;
+use plan_rules::{beside, direction_of};
 use plan_typed::{Rel, SortKey};
 use plan_verdict::{CheckError, Progress, Rule};
 use sub_types::Ty;

@@ -3,7 +3,8 @@ use Rattle.sub_types.specs.declared.kind.Ty.{Ty}
 use Rattle.plan_typed.specs.declared.rel.Op.TheVariants as ops
 use Rattle.plan_typed.specs.declared.rel.Rel.{Rel}
 use Rattle.plan_typed.specs.Types.{columns_of}
-use Rattle.check_rels.proofs.MadeLaws.{finished_at, if_found}
+use Rattle.plan_rules.proofs.HeldLaws.{if_found}
+use Rattle.check_rels.proofs.MadeLaws.{finished_at}
 use Rattle.check_rels.proofs.made.cross_of.Goals as goal
 
 pub returns : goal.returns

@@ -4,7 +4,8 @@ use Rattle.plan_typed.specs.declared.rel.Op.TheVariants as ops
 use Rattle.plan_typed.specs.declared.rel.Rel.{Rel}
 use Rattle.plan_typed.specs.Types.{columns_of}
 use Rattle.plan_verdict.specs.Rels.{join_columns}
-use Rattle.check_rels.proofs.MadeLaws.{finished_at, if_found}
+use Rattle.plan_rules.proofs.HeldLaws.{if_found}
+use Rattle.check_rels.proofs.MadeLaws.{finished_at}
 use Rattle.check_rels.proofs.made.join_of.Goals as goal
 
 pub returns : goal.returns
