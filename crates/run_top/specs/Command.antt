@@ -1,12 +1,13 @@
 -- The answer of a command line, by its command.
 use Rattle.std.specs.Prelude.{◌≡◌, ℕ, List, Option, None}
 use Rattle.world.specs.Files.{Files}
-use Rattle.run_top.specs.declared.status.Status.{Status}
-use Rattle.run_top.specs.declared.words.Command.{Command}
-use Rattle.run_top.specs.declared.words.Command.TheVariants.{Run, Check}
-use Rattle.run_top.specs.Words.{reading_of, plan_to_check}
-use Rattle.run_top.specs.Lines.{line_of, check_line_of}
-use Rattle.run_top.specs.Answer.{answer, check_answer, FitsFiles, FitsCheck, IsDenoted, IsCheckDenoted, IsNamed, IsCheckNamed}
+use Rattle.run_words.specs.declared.status.Status.{Status}
+use Rattle.run_words.specs.declared.words.Command.{Command}
+use Rattle.run_words.specs.declared.words.Command.TheVariants.{Run, Check}
+use Rattle.run_words.specs.Words.{reading_of, plan_to_check}
+use Rattle.run_words.specs.Lines.{line_of, check_line_of}
+use Rattle.run_accepted.specs.Fits.{FitsFiles}
+use Rattle.run_top.specs.Answer.{answer, check_answer, FitsCheck, IsDenoted, IsCheckDenoted, IsNamed, IsCheckNamed}
 
 -- which status and files fit what the command denotes
 abbrev pub FitsCommand : Command → List (List ℕ) → Files → Option Files → Option Files → Status → Type 0

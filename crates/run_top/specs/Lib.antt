@@ -1,12 +1,4 @@
-pub mod Words
-pub mod ReadingSeen
-pub mod Lines
-pub mod Said
 pub mod Found
-pub mod Alone
-pub mod Tables
-pub mod TableSeen
-pub mod TableRead
 pub mod Answer
 pub mod Command
 pub mod SameRows

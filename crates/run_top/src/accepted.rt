@@ -2,26 +2,28 @@
 ghost use Rattle.std.specs.Prelude.{◌≡◌, ◌≢◌, ◌≤◌, IfOk, IfErr, Some, Ok, Err, length};
 ghost use Rattle.world.specs.Counts.{Rose};
 ghost use Rattle.world.specs.Files.{Files};
+ghost use Rattle.run_accepted.specs.Done.{IsAccepted};
 ghost use Rattle.run_top.specs.Answer.{MAX_PLAN, accepted_in, accepted_at, IsRefusalOf, IsPlanRefusal};
 
 use crate::plan::{Found, MAX_PLAN, read_plan};
-use crate::status::Status;
 use plan_check::check_holes;
 use plan_decode::{DecodeError, decode_plan};
-use plan_raw::PlanTree;
+use plan_typed::Holed;
 use plan_verdict::CheckError;
+use run_words::Status;
 use std::alloc::Global;
 use table_open::FileRule;
 use world::{Folder, FolderError};
 
-/// The tree of the plan of this name, or why it isn't accepted.
+/// The checked plan of this name, or why it isn't accepted.
 #[tactic(auto, unfolding(crate::specs::Answer::tree_in, crate::specs::Answer::accepted_in))]
 pub(crate) fn accepted_plan<F: Folder>(
     alloc: Global,
     folder: &mut F,
     name: &str,
-) -> Result<PlanTree, Status>
-    ensures tree { (files : Files) → F.files folder.old ≡ Some files → IfOk result (λ tree. accepted_at files name.now ≡ Ok tree) }
+) -> Result<Holed, Status>
+    ensures plan { (files : Files) → F.files folder.old ≡ Some files → IfOk result (λ plan. accepted_at files name.now ≡ Ok plan) }
+    ensures accepted { IfOk result IsAccepted }
     ensures refused { (files : Files) → F.files folder.old ≡ Some files
         → IfErr result (IsRefusalOf (accepted_at files name.now)) }
     ensures named { IfErr result IsPlanRefusal }
@@ -45,11 +47,12 @@ pub(crate) fn accepted_plan<F: Folder>(
     }
 }
 
-// The tree of these bytes, or why it isn't accepted.
+// The checked plan of these bytes, or why it isn't accepted.
 #[tactic(auto, unfolding(crate::specs::Answer::tree_in, crate::specs::Answer::accepted_in))]
-fn accepted(alloc: Global, bytes: &[u8]) -> Result<PlanTree, Status>
+fn accepted(alloc: Global, bytes: &[u8]) -> Result<Holed, Status>
     requires { length bytes.now ≤ MAX_PLAN }
-    ensures tree { IfOk result (λ tree. accepted_in bytes.now ≡ Ok tree) }
+    ensures plan { IfOk result (λ plan. accepted_in bytes.now ≡ Ok plan) }
+    ensures accepted { IfOk result IsAccepted }
     ensures refused { IfErr result (IsRefusalOf (accepted_in bytes.now)) }
     ensures named { IfErr result IsPlanRefusal }
     ensures no_read_fault { result ≢ Err Status.ReadFault }
@@ -62,7 +65,7 @@ fn accepted(alloc: Global, bytes: &[u8]) -> Result<PlanTree, Status>
         Err(DecodeError::NoMemory) => return Err(Status::NoMemory),
     };
     match check_holes(alloc, &tree) {
-        Ok(_) => Ok(tree),
+        Ok(plan) => Ok(plan),
         Err(CheckError::Refused { relation, rule }) => Err(Status::PlanRefused { relation, rule }),
         Err(CheckError::NoMemory) => Err(Status::NoMemory),
     }

@@ -2,15 +2,13 @@
 ghost use Rattle.std.specs.Prelude.{◌≡◌, ◌⊎◌, ◌↔◌, Some, None};
 ghost use Rattle.world.specs.Counts.{Rose};
 ghost use Rattle.world.specs.Files.{Files};
-ghost use Rattle.run_top.specs.Words.{plan_to_check};
-ghost use Rattle.run_top.specs.Lines.{check_line_of};
-ghost use Rattle.run_top.specs.Said.{IsSaid};
+ghost use Rattle.run_words.specs.Words.{plan_to_check};
+ghost use Rattle.run_words.specs.Lines.{check_line_of};
+ghost use Rattle.run_words.specs.Said.{IsSaid};
 ghost use Rattle.run_top.specs.Answer.{check_answer, FitsCheck, IsCheckDenoted, IsCheckNamed, IsEmpty};
 
 use crate::accepted::accepted_plan;
-use crate::line::say_check_line;
-use crate::status::{Report, Status};
-use crate::words::read_check;
+use run_words::{Report, Status, read_check, say_check_line};
 use std::alloc::Global;
 use sub_types::Word;
 use world::{Folder, Notes};

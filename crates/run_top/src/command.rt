@@ -2,14 +2,13 @@
 ghost use Rattle.std.specs.Prelude.{◌≡◌, ◌⊎◌, ◌↔◌, Some};
 ghost use Rattle.world.specs.Counts.{Rose};
 ghost use Rattle.world.specs.Files.{Files};
-ghost use Rattle.run_top.specs.Words as spec;
-ghost use Rattle.run_top.specs.Said.{IsSaid};
+ghost use Rattle.run_words.specs.Words as spec;
+ghost use Rattle.run_words.specs.Said.{IsSaid};
 ghost use Rattle.run_top.specs.Command.{FitsCommand, IsCommandDenoted, HasNoReading, IsCommandNamed, command_line_of};
 
 use crate::check::check_main;
 use crate::run::run_main;
-use crate::status::Status;
-use crate::words::{Command, command_of};
+use run_words::{Command, Status, command_of};
 use std::alloc::Global;
 use std::marker::Sync;
 use std::sync::Wait;

@@ -1,6 +1,0 @@
-pub mod StepLaws
-pub mod CutLaws
-pub mod NameLaws
-pub mod LiteralLaws
-pub mod BatchLaws
-pub mod FormLaws

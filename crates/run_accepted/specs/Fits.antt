@@ -1,0 +1,52 @@
+-- Which status, report and files fit what a run does.
+use Rattle.std.specs.Prelude.{◌≡◌, ◌⊎◌, ℕ, List, Option, Some, Result, Ok, Err, length, map, IsOkAnd}
+use Rattle.std.specs.List.{AllZip}
+use Rattle.sub_types.specs.declared.fault.Fault.{Fault}
+use Rattle.sub_types.specs.declared.fault.FaultKind.TheVariants as kinds
+use Rattle.world.specs.Files.{Files, written, IsPartWritten}
+use Rattle.run_core.specs.Receipts.{IsBalanced, lists_of}
+use Rattle.plan_typed.specs.declared.sub.Holed.{Holed}
+use Rattle.plan_denote.specs.Denote.{Tables}
+use Rattle.plan_denote.specs.Subqueries.{denote_plan}
+use Rattle.plan_reads.specs.Reads.{reads_of}
+use Rattle.plan_tables.specs.Refused.{IsRefused}
+use Rattle.run_words.specs.declared.status.PipeReceipt.{PipeReceipt}
+use Rattle.run_words.specs.declared.status.Report.{Report}
+use Rattle.run_words.specs.declared.status.Status.{Status}
+use Rattle.run_words.specs.declared.status.Status.TheVariants as status
+use Rattle.run_accepted.specs.Done.{Done}
+
+-- the receipt of a read relation of so many batches: each was claimed once, and was finished by one worker or is left
+pub record IsReceiptOf (workers : ℕ) (input : ℕ × ℕ) (receipt : PipeReceipt) : Type 0 where
+  pub relation : receipt.relation ≡ input.0
+  pub batches : receipt.batches ≡ input.1
+  pub seats : length receipt.workers.items ≡ workers
+  pub balanced : IsBalanced receipt.batches (map lists_of receipt.workers.items) receipt.left.items
+
+-- what a report says of a run that was done: one receipt for each read relation, in order
+pub record IsReport (done : Done) (report : Report) : Type 0 where
+  pub rows : report.rows ≡ done.rows
+  pub receipts : AllZip (IsReceiptOf done.workers) done.inputs report.receipts.items
+
+-- Which status and files fit what a run does. One that is done leaves the file under the out name and all others as they were; a
+-- refusal is the denoted one, and leaves all files as they were; a failed write leaves a prefix of the denoted file.
+abbrev pub FitsFiles : Result Done Status → Option Files → Option Files → Status → Type 0
+FitsFiles denoted before now (status.Ok report) = IsOkAnd denoted (λ done. IsReport done report × (now ≡ written before done.out done.file))
+FitsFiles denoted before now status.ReadFault = now ≡ before
+FitsFiles denoted before now status.WriteFault = IsOkAnd denoted (λ done. IsPartWritten before now done.out done.file)
+FitsFiles denoted before now status.NoMemory = (now ≡ before) ⊎ IsOkAnd denoted (λ done. IsPartWritten before now done.out done.file)
+FitsFiles denoted before now refusal = (denoted ≡ Err refusal) × (now ≡ before)
+
+-- the fault is the plan's over some tables, or there are too many rows
+abbrev pub IsFaultOf : Holed → Fault → Type 0
+IsFaultOf plan fault = ((tables : Tables) × ((denote_plan tables plan).end ≡ Some fault)) ⊎ (fault ≡ record { relation = 0; kind = kinds.TooManyRows })
+
+-- the answers that can come of an accepted plan, whatever the folder tells
+abbrev pub IsOutcome : Holed → Status → Type 0
+IsOutcome plan (status.Ok report) = Unit {0}
+IsOutcome plan (status.FileRefused file rule) = IsRefused (reads_of plan) 1024 file rule
+IsOutcome plan (status.DataFault fault) = IsFaultOf plan fault
+IsOutcome plan status.ReadFault = Unit {0}
+IsOutcome plan status.WriteFault = Unit {0}
+IsOutcome plan status.NoMemory = Unit {0}
+IsOutcome plan _ = ⊥

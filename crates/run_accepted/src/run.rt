@@ -1,0 +1,132 @@
+// The run of an accepted plan: open, read, work out, write.
+ghost use Rattle.std.specs.Prelude.{◌≡◌, ◌≢◌, ◌-◌, ◌≤◌, ℕ, List, Some, length, map};
+ghost use Rattle.std.specs.List.{All, AllZip};
+ghost use Rattle.world.specs.Counts.{Rose};
+ghost use Rattle.world.specs.Files.{Files};
+ghost use Rattle.plan_reads.specs.Reads.{reads_of as spec_reads_of};
+ghost use Rattle.plan_tables.specs.Open.{open_seen, AllTold, AllReady, count_open};
+ghost use Rattle.plan_tables.specs.Read.{IsTableOf};
+ghost use Rattle.plan_tables.specs.Tables.{Opened, tested_tables};
+ghost use Rattle.row_engine.specs.Tables.{tables_seen};
+ghost use Rattle.run_words.specs.ReadingSeen.{reading_seen};
+ghost use Rattle.run_accepted.specs.Done as spec;
+ghost use Rattle.run_accepted.specs.Done.{IsAccepted, input_of};
+ghost use Rattle.run_accepted.specs.Fits.{FitsFiles, IsReceiptOf, IsOutcome};
+
+use crate::inputs::receipts_of;
+use crate::write::write_rows;
+use plan_reads::reads_of;
+use plan_rows::run_plan;
+use plan_tables::{OpenRead, close_reads, open_reads, read_tables};
+use plan_typed::Holed;
+use row_engine::Table;
+use run_words::{PipeReceipt, Reading, Status};
+use std::alloc::Global;
+use sub_types::NoMemory;
+use table_open::TableError;
+use world::{Folder, FolderError};
+
+/// Runs an accepted plan over the files of a folder: those that the words bind to the names of its read relations' tables, its
+/// subqueries' among them, are opened and read, and the rows that it denotes over them are written as the out file. Nothing is
+/// written before all rows are known. All readers are given back.
+#[tactic(auto, unfolding(crate::specs::Done::done_in))]
+pub fn run_accepted<F: Folder>(
+    alloc: Global,
+    folder: &mut F,
+    reading: Reading<'_>,
+    plan: &Holed,
+) -> Status
+    requires workers { 1 ≤ reading.workers }
+    requires few_words { length reading.bindings.now ≤ 1024 }
+    requires accepted { IsAccepted plan.now }
+    ensures files { (files : Files) → F.files folder.old ≡ Some files
+        → FitsFiles (spec.done_in files (reading_seen reading.entry) plan.now) (F.files folder.old) (F.files folder.new) result }
+    ensures named { IsOutcome plan.now result }
+    ensures read_fault { result ≡ Status.ReadFault → Rose (F.read_faults folder.old) (F.read_faults folder.new) }
+    ensures never_falls { F.read_faults folder.old ≤ F.read_faults folder.new }
+    ensures write_fault { result ≡ Status.WriteFault → Rose (F.write_faults folder.old) (F.write_faults folder.new) }
+    ensures lent { F.lent folder.new ≡ F.lent folder.old }
+{
+    let reads = match reads_of(alloc, plan) {
+        Ok(reads) => reads,
+        Err(NoMemory) => return Status::NoMemory,
+    };
+    match open_reads(alloc, folder, reading.bindings, reads) {
+        Ok(opened) => run_opened(alloc, folder, reading, plan, opened),
+        Err(TableError::Refused { file, rule }) => Status::FileRefused { file, rule },
+        Err(TableError::ReadFault) => Status::ReadFault,
+        Err(TableError::NoMemory) => Status::NoMemory,
+    }
+}
+
+/// The same once the files are open.
+fn run_opened<F: Folder>(
+    alloc: Global,
+    folder: &mut F,
+    reading: Reading<'_>,
+    plan: &Holed,
+    opened: Vec<OpenRead<F::R>>,
+) -> Status
+    requires workers { 1 ≤ reading.workers }
+    requires accepted { IsAccepted plan.now }
+    requires reads { map (λ one. one.read) opened.items ≡ spec_reads_of plan.now }
+    requires ready { AllReady F.R.bytes opened.items }
+    ensures files { AllTold F.R.bytes opened.items
+        → FitsFiles (spec.done_over (reading_seen reading.entry) plan.now (map (open_seen F.R.bytes) opened.items)) (F.files folder.old) (F.files folder.new) result }
+    ensures named { IsOutcome plan.now result }
+    ensures read_fault { result ≡ Status.ReadFault → Rose (F.read_faults folder.old) (F.read_faults folder.new) }
+    ensures never_falls { F.read_faults folder.old ≤ F.read_faults folder.new }
+    ensures write_fault { result ≡ Status.WriteFault → Rose (F.write_faults folder.old) (F.write_faults folder.new) }
+    ensures lent { F.lent folder.new ≡ F.lent folder.old - count_open opened.items }
+{
+    let receipts = match receipts_of(alloc, &opened, reading.workers) {
+        Ok(receipts) => receipts,
+        Err(NoMemory) => {
+            let _ = close_reads(alloc, folder, opened);
+            return Status::NoMemory;
+        }
+    };
+    match read_tables(alloc, folder, opened) {
+        Ok(tables) => run_tables(alloc, folder, reading, plan, &tables, receipts),
+        Err(FolderError::Failed) => Status::ReadFault,
+        Err(FolderError::NoMemory) => Status::NoMemory,
+    }
+}
+
+/// The same once the tables are read.
+fn run_tables<F: Folder>(
+    alloc: Global,
+    folder: &mut F,
+    reading: Reading<'_>,
+    plan: &Holed,
+    tables: &[Table],
+    receipts: Vec<PipeReceipt>,
+) -> Status
+    requires accepted { IsAccepted plan.now }
+    requires tables { AllZip IsTableOf (spec_reads_of plan.now) tables.now }
+    ensures files { (opened : List Opened) → map (λ one. one.read) opened ≡ spec_reads_of plan.now
+        → ((relation : ℕ) → tables_seen tables.now relation ≡ tested_tables opened relation)
+        → AllZip (IsReceiptOf reading.entry.workers) (map input_of opened) receipts.items
+        → FitsFiles (spec.done_over (reading_seen reading.entry) plan.now opened) (F.files folder.old) (F.files folder.new) result }
+    ensures named { IsOutcome plan.now result }
+    ensures reads_nothing { result ≢ Status.ReadFault }
+    ensures read_faults { F.read_faults folder.new ≡ F.read_faults folder.old }
+    ensures write_fault { result ≡ Status.WriteFault → Rose (F.write_faults folder.old) (F.write_faults folder.new) }
+    ensures lent { F.lent folder.new ≡ F.lent folder.old }
+{
+    let stream = match run_plan(alloc, plan, tables) {
+        Ok(stream) => stream,
+        Err(NoMemory) => return Status::NoMemory,
+    };
+    if let Some(fault) = stream.end {
+        return Status::DataFault { fault };
+    }
+    write_rows(
+        alloc,
+        folder,
+        reading,
+        plan,
+        stream.rows.as_slice(),
+        receipts,
+    )
+}

@@ -1,6 +1,0 @@
--- A reading without references.
-use Rattle.run_top.specs.declared.words.Reading as declared
-use Rattle.run_top.specs.Words.{Reading}
-
-abbrev pub reading_seen : declared.Reading → Reading
-reading_seen r = record { plan = r.plan.now; out = r.out.now; workers = r.workers; bindings = r.bindings.now }

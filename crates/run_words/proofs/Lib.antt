@@ -1,0 +1,3 @@
+pub mod NumberLaws
+pub mod SaidLaws
+pub mod AloneLaws

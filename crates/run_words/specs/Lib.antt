@@ -1,0 +1,5 @@
+pub mod Words
+pub mod ReadingSeen
+pub mod Lines
+pub mod Said
+pub mod Alone

@@ -1,0 +1,6 @@
+-- A reading without references.
+use Rattle.run_words.specs.declared.words.Reading as declared
+use Rattle.run_words.specs.Words.{Reading}
+
+abbrev pub reading_seen : declared.Reading → Reading
+reading_seen r = record { plan = r.plan.now; out = r.out.now; workers = r.workers; bindings = r.bindings.now }
