@@ -1,11 +1,9 @@
-//! Tests of `sub_query`: which node of an expression a value goes to, what an earlier list of values leaves where it is, which
-//! relation a value goes to, what rows are worth, and a plan with a subquery.
+//! Tests of `sub_query` over batches: what they are worth, and a plan whose subquery is given its rows. Which node of which
+//! relation a value goes to is tested by the plans of `plan_rows_tests`.
 #![tactic(auto)]
 
 #[cfg(test)]
 mod batches;
-#[cfg(test)]
-mod filling;
 #[cfg(test)]
 mod in_turn;
 #[cfg(test)]

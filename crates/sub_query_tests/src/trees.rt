@@ -1,17 +1,11 @@
 // Small trees, and what stands in them.
 use plan_leaves::{Boxed, Items, zip};
-use plan_typed::{Expr, Func, Hole, Op, Overflow, Rel, Source};
+use plan_typed::{Expr, Op, Rel, Source};
 use std::alloc::Global;
-use sub_query::{KnownWorth, Worth};
 use sub_types::{Kind, NoMemory, Ty, Value};
 
 pub(crate) const NUMBER: Ty = Ty {
     kind: Kind::I64,
-    nullable: true,
-};
-
-const TRUTH: Ty = Ty {
-    kind: Kind::Bool,
     nullable: true,
 };
 
@@ -36,28 +30,6 @@ pub(crate) fn with<T: Drop>(
     let (mut list, item) = zip(list, item)?;
     list.push(item)?;
     Ok(list)
-}
-
-pub(crate) fn sum(args: Result<Items<Expr>, NoMemory>) -> Result<Expr, NoMemory> {
-    Ok(Expr::Call {
-        func: Func::Add,
-        mode: Overflow::Error,
-        args: args?,
-        ty: NUMBER,
-    })
-}
-
-/// Whether the first column is one of no options.
-pub(crate) fn in_none(alloc: Global) -> Result<Expr, NoMemory> {
-    let column = Expr::Column {
-        index: 0,
-        ty: NUMBER,
-    };
-    Ok(Expr::OneOf {
-        value: Boxed::new(alloc, column)?,
-        options: Items::new(alloc),
-        ty: TRUTH,
-    })
 }
 
 /// A read of no rows.
@@ -98,50 +70,10 @@ fn relation(alloc: Global, number: u32, op: Op) -> Rel {
     }
 }
 
-/// A number that goes to a node.
-pub(crate) fn single(relation: u32, node: u32, number: i64) -> Result<KnownWorth, NoMemory> {
-    Ok(KnownWorth {
-        hole: Hole { relation, node },
-        worth: Worth::Single(Value::Int(number)),
-    })
-}
-
-/// Numbers among which the value of a node is looked for.
-pub(crate) fn among(
-    relation: u32,
-    node: u32,
-    found: Result<Items<Value>, NoMemory>,
-) -> Result<KnownWorth, NoMemory> {
-    Ok(KnownWorth {
-        hole: Hole { relation, node },
-        worth: Worth::Among {
-            column: NUMBER,
-            found: found?,
-        },
-    })
-}
-
 /// The expressions of a projection, or none.
 pub(crate) fn exprs_of(rel: &Rel) -> &[Expr] {
     match &rel.op {
         Op::Project { exprs, .. } => exprs.as_slice(),
-        _ => &[],
-    }
-}
-
-/// The input of a projection.
-pub(crate) fn input_of(rel: &Rel) -> Option<&Rel> {
-    match &rel.op {
-        Op::Project { input, .. } => Some(input.get()),
-        _ => None,
-    }
-}
-
-/// The arguments of a call, or the options of a list.
-pub(crate) fn parts_of(expr: Option<&Expr>) -> &[Expr] {
-    match expr {
-        Some(Expr::Call { args, .. }) => args.as_slice(),
-        Some(Expr::OneOf { options, .. }) => options.as_slice(),
         _ => &[],
     }
 }

@@ -1,10 +1,10 @@
-// What subqueries are worth by rows of one number, and a subquery inside a subquery.
+// What subqueries are worth by batches of one number.
 use crate::batches::two_batches;
-use crate::trees::{one, read, with};
-use plan_leaves::{Items, zip};
+use crate::trees::read;
+use plan_leaves::zip;
 use plan_typed::{Hole, Sub, SubKind};
 use std::alloc::Global;
-use sub_query::{Worth, worth_of_batches, worth_of_rows};
+use sub_query::{Worth, worth_of_batches};
 use sub_types::{Fault, FaultKind, NoMemory, Value};
 
 type Found = Result<Result<Worth, Fault>, NoMemory>;
@@ -19,15 +19,6 @@ fn sub(alloc: Global, kind: SubKind) -> Result<Sub, NoMemory> {
             node: 0,
         },
     })
-}
-
-fn by_rows(alloc: Global, kind: SubKind, list: &[i64]) -> Found {
-    let mut rows = Ok(Items::new(alloc));
-    for number in list {
-        rows = with(rows, one(alloc, Ok(Value::Int(*number))));
-    }
-    let (sub, rows) = zip(sub(alloc, kind), rows)?;
-    worth_of_rows(alloc, &sub, rows.as_slice())
 }
 
 /// By two batches, of which the first has no row.
@@ -69,14 +60,6 @@ fn has_count(found: Found, count: usize) -> bool {
 }
 
 #[test]
-fn scalars_of_rows(rt: HostRuntime) {
-    let alloc = rt.alloc();
-    assert!(rt; is_null(by_rows(alloc, SubKind::Scalar, &[])));
-    assert!(rt; is_number(by_rows(alloc, SubKind::Scalar, &[8]), 8));
-    assert!(rt; is_many(by_rows(alloc, SubKind::Scalar, &[8, 9])));
-}
-
-#[test]
 fn scalars_of_batches(rt: HostRuntime) {
     let alloc = rt.alloc();
     assert!(rt; is_null(by_batches(alloc, SubKind::Scalar, &[])));
@@ -87,16 +70,13 @@ fn scalars_of_batches(rt: HostRuntime) {
 #[test]
 fn lists(rt: HostRuntime) {
     let alloc = rt.alloc();
-    assert!(rt; has_count(by_rows(alloc, SubKind::In, &[]), 0));
-    assert!(rt; has_count(by_rows(alloc, SubKind::In, &[5, 5]), 2));
+    assert!(rt; has_count(by_batches(alloc, SubKind::In, &[]), 0));
     assert!(rt; has_count(by_batches(alloc, SubKind::In, &[5, 5]), 2));
 }
 
 #[test]
 fn whether_there_is_a_row(rt: HostRuntime) {
     let alloc = rt.alloc();
-    assert!(rt; is_truth(by_rows(alloc, SubKind::Exists, &[]), false));
-    assert!(rt; is_truth(by_rows(alloc, SubKind::Exists, &[5, 5]), true));
     assert!(rt; is_truth(by_batches(alloc, SubKind::Exists, &[]), false));
     assert!(rt; is_truth(by_batches(alloc, SubKind::Exists, &[5]), true));
 }

@@ -1,4 +1,4 @@
-// Runs each plan of the files of `data/` by the row engine, and says which give other rows than they must. The README says what
+// Runs each plan of the files of `data/` by `run_plan`, and says which give other rows than they must. The README says what
 // stands in such a file.
 #![tactic(auto)]
 
@@ -11,7 +11,7 @@ use std::fs;
 use std::rt::Files;
 
 /// The files of plans.
-const FILES: [&str; 2] = ["edges.plans", "mixed.plans"];
+const FILES: [&str; 3] = ["edges.plans", "mixed.plans", "subqueries.plans"];
 
 fn main(rt: HostRuntime) -> Result<()> {
     let mut passed = 0;

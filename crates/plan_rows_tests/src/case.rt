@@ -4,7 +4,7 @@ use anyhow::{Context, Result, bail};
 use hex::decode;
 use plan_check::check_holes;
 use plan_decode::decode_plan;
-use row_engine::run_rows;
+use plan_rows::run_plan;
 use std::alloc::Global;
 
 /// A plan in hex, and its rows and its fault as lines of text.
@@ -45,9 +45,7 @@ impl Case {
         let bytes = decode(alloc, self.plan.as_str())?;
         let tree = decode_plan(alloc, &bytes).ok().context("unreadable")?;
         let plan = check_holes(alloc, &tree).ok().context("refused")?;
-        let rows = run_rows(alloc, &plan.typed.rel, &[])
-            .ok()
-            .context("no memory")?;
+        let rows = run_plan(alloc, &plan, &[]).ok().context("no memory")?;
         stream_text(alloc, &rows)
     }
 }
