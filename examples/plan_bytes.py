@@ -429,23 +429,36 @@ def octal(character: str) -> str:
 # --- the command -------------------------------------------------------------------------------------------------
 
 
+def print_text(plan: str) -> None:
+    """Prints the plan in the file as text."""
+    with open(plan, "rb") as file:
+        content = file.read()
+    print("\n".join(BytesReader(content, 0, len(content)).lines("Plan")))
+
+
+def write_plan(text: str, plan: str) -> None:
+    """Writes the plan whose text is in the one file to the other, once the whole text is read."""
+    with open(text, encoding="utf-8") as file:
+        content = TextReader(file.read()).plan()
+    with open(plan, "wb") as file:
+        file.write(content)
+
+
 def main(words: list[str]) -> int:
     """Runs the command; the number that it ends with."""
     if len(words) != 2:
         print(__doc__, file=sys.stderr)
         return 2
-    source = words[1] if words[0] == "--text" else words[0]
     try:
-        with open(source, "rb") as file:
-            content = file.read()
         if words[0] == "--text":
-            print("\n".join(BytesReader(content, 0, len(content)).lines("Plan")))
+            print_text(words[1])
         else:
-            plan = TextReader(content.decode()).plan()
-            with open(words[1], "wb") as file:
-                file.write(plan)
-    except (PlanError, UnicodeDecodeError) as error:
-        print(f"{source}: {error}", file=sys.stderr)
+            write_plan(words[0], words[1])
+    except (OSError, UnicodeDecodeError, PlanError) as error:
+        print(error, file=sys.stderr)
+        return 1
+    except RecursionError:
+        print("too many levels of messages", file=sys.stderr)
         return 1
     return 0
 
