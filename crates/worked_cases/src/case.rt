@@ -23,6 +23,8 @@ pub(crate) struct Case {
     pub(crate) prefixes: Option<Prefixes>,
     /// What fails. The run is then tried again with no failures.
     pub(crate) failures: Vec<Failure>,
+    /// The files whose calls fail one after the other, a run each, and so do the calls that write; none: no such runs.
+    pub(crate) each: Vec<String>,
 }
 
 /// A file by its name.
@@ -56,6 +58,13 @@ pub(crate) enum Failure {
     Create,
     /// One append, which keeps so many bytes of its piece.
     Append { index: u32, kept: u32 },
+}
+
+impl Failure {
+    /// Whether it is one of a call that writes.
+    pub(crate) fn is_of_writing(&self) -> bool {
+        matches!(self, Failure::Create | Failure::Append { .. })
+    }
 }
 
 /// A line that isn't one of a case.
@@ -196,6 +205,7 @@ impl Draft {
                 workers: Vec::new(alloc),
                 prefixes: None,
                 failures: Vec::new(alloc),
+                each: Vec::new(alloc),
             },
             has_words: false,
             has_status: false,
@@ -213,7 +223,7 @@ impl Draft {
             "out" => add_file(alloc, &mut self.case.outs, rest),
             "workers" => self.take_workers(alloc, rest),
             "prefixes" => self.take_prefixes(alloc, rest),
-            "fail" => Ok(self.case.failures.push(failure_of(alloc, rest)?)?),
+            "fail" => self.take_failure(alloc, rest),
             _ => Err(LineFault::UnknownKeyword),
         }
     }
@@ -265,6 +275,24 @@ impl Draft {
         Ok(())
     }
 
+    // One failure, or the files whose calls fail one after the other.
+    fn take_failure(&mut self, alloc: Global, rest: &str) -> Result<(), LineFault> {
+        match rest.strip_prefix("each ") {
+            Some(names) => self.take_each(alloc, names),
+            None => Ok(self.case.failures.push(failure_of(alloc, rest)?)?),
+        }
+    }
+
+    fn take_each(&mut self, alloc: Global, names: &str) -> Result<(), LineFault> {
+        if !self.case.each.is_empty() {
+            return Err(LineFault::Repeated);
+        }
+        for name in names.split(' ') {
+            self.case.each.push(String::from_str(alloc, name)?)?;
+        }
+        Ok(())
+    }
+
     // The case, whose last line was read.
     fn case(self) -> Result<Case, LineFault> {
         match self.fault() {
@@ -284,6 +312,8 @@ impl Draft {
             Some(LineFault::NoStatus)
         } else if !case.workers.is_empty() && case.workers_place().is_none() {
             Some(LineFault::NoWorkers)
+        } else if !case.each.is_empty() && !case.failures.is_empty() {
+            Some(LineFault::Repeated)
         } else if !case.has_prefix() {
             Some(LineFault::NoPrefix)
         } else {

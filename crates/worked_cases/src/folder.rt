@@ -16,6 +16,9 @@ pub(crate) struct CountingFolder {
     pub(crate) given: u64,
     /// How many of them were given back.
     pub(crate) returned: u64,
+    // How many bytes were to be appended, and how many of them last.
+    pieces: usize,
+    last_piece: usize,
 }
 
 impl CountingFolder {
@@ -27,6 +30,8 @@ impl CountingFolder {
             names: Vec::new(alloc),
             given: 0,
             returned: 0,
+            pieces: 0,
+            last_piece: 0,
         }
     }
 
@@ -39,6 +44,12 @@ impl CountingFolder {
     /// Whether a file of that name was put or was to be created.
     pub(crate) fn has_name(&self, name: &str) -> bool {
         is_among(&self.names, name)
+    }
+
+    /// How many bytes are left of all pieces, where the last append failed and kept at most so many of its piece.
+    pub(crate) fn left_of_pieces(&self, kept: u32) -> usize {
+        let before = self.pieces.saturating_sub(self.last_piece);
+        before.saturating_add(self.last_piece.min(kept as usize))
     }
 }
 
@@ -86,6 +97,8 @@ impl Folder for CountingFolder {
     }
 
     fn append(&mut self, alloc: Global, name: &str, piece: &[u8]) -> Result<(), FolderError> {
+        self.last_piece = piece.len();
+        self.pieces = self.pieces.saturating_add(piece.len());
         self.inner.append(alloc, name, piece)
     }
 }

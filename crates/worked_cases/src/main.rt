@@ -3,6 +3,7 @@
 #![tactic(auto)]
 
 mod case;
+mod each;
 mod folder;
 mod report;
 mod run;

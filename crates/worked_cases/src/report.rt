@@ -1,4 +1,5 @@
 // What the program prints.
+use crate::case::Failure;
 use crate::run::{Difference, Differing, Variant};
 use std::{fmt, io};
 
@@ -14,7 +15,10 @@ pub(crate) fn print_differing<P: Print>(
     } else {
         ""
     };
-    println!(rt; "{case}{variant}{again}:")?;
+    match &differing.failure {
+        Some(failure) => println!(rt; "{case}{variant}, {failure}{again}:")?,
+        None => println!(rt; "{case}{variant}{again}:")?,
+    }
     for difference in differing.differences.iter() {
         println!(rt; "  {difference}")?;
     }
@@ -46,6 +50,20 @@ impl fmt::Display for Variant<'_> {
             write!(f, ", the first {length} bytes of {name}")?;
         }
         Ok(())
+    }
+}
+
+impl fmt::Display for Failure {
+    fn fmt<W: fmt::Write>(&self, f: &mut fmt::Formatter<W>) -> fmt::Result {
+        match self {
+            Failure::Open { name } => write!(f, "fail open {name}"),
+            Failure::Len { name } => write!(f, "fail len {name}"),
+            Failure::Read { name, index } => write!(f, "fail read {name} {index}"),
+            Failure::At { name, place } => write!(f, "fail at {name} {place}"),
+            Failure::Again { name, index } => write!(f, "fail again {name} {index}"),
+            Failure::Create => write!(f, "fail create"),
+            Failure::Append { index, kept } => write!(f, "fail append {index} {kept}"),
+        }
     }
 }
 

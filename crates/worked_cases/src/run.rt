@@ -1,5 +1,6 @@
 // Runs a case over folders in memory, and compares what comes with what is expected.
 use crate::case::{Case, Failure, NamedFile};
+use crate::each;
 use crate::folder::CountingFolder;
 use run_top::{command_main, exit_number};
 use std::alloc::Global;
@@ -22,6 +23,8 @@ pub(crate) struct Variant<'a> {
 #[derive(Drop)]
 pub(crate) struct Differing<'a> {
     pub(crate) variant: Variant<'a>,
+    /// The one call that fails in it, where each of a case's calls fails in turn.
+    pub(crate) failure: Option<Failure>,
     /// Whether it is the run that follows the one with failures.
     pub(crate) is_second: bool,
     pub(crate) differences: Vec<Difference>,
@@ -66,10 +69,10 @@ pub(crate) enum Difference {
 
 // What was said, the number at the end, and what was left: of a run, or expected of one.
 #[derive(Drop)]
-struct Outcome {
-    text: Vec<u8>,
-    number: u8,
-    folder: CountingFolder,
+pub(crate) struct Outcome {
+    pub(crate) text: Vec<u8>,
+    pub(crate) number: u8,
+    pub(crate) folder: CountingFolder,
 }
 
 /// The first run of the case that differs, or `None`.
@@ -80,6 +83,9 @@ pub(crate) fn first_differing<'a, H: Threads + Wait + Sync>(
 ) -> Result<Option<Differing<'a>>, NoMemory> {
     for variant in variants_of(alloc, case)?.iter() {
         if let Some(differing) = differing_in(rt, alloc, case, *variant)? {
+            return Ok(Some(differing));
+        }
+        if let Some(differing) = each::first_differing(rt, alloc, case, *variant)? {
             return Ok(Some(differing));
         }
     }
@@ -184,13 +190,18 @@ fn where_any(
     }
     Some(Differing {
         variant,
+        failure: None,
         is_second,
         differences,
     })
 }
 
 // The words of a run.
-fn words_of(alloc: Global, case: &Case, variant: Variant<'_>) -> Result<Vec<Word>, NoMemory> {
+pub(crate) fn words_of(
+    alloc: Global,
+    case: &Case,
+    variant: Variant<'_>,
+) -> Result<Vec<Word>, NoMemory> {
     let workers_place = case.workers_place();
     let mut words = Vec::new(alloc);
     for (place, word) in case.words.iter().enumerate() {
@@ -203,7 +214,7 @@ fn words_of(alloc: Global, case: &Case, variant: Variant<'_>) -> Result<Vec<Word
 }
 
 // The folder at the start of a run.
-fn start_folder(
+pub(crate) fn start_folder(
     alloc: Global,
     case: &Case,
     variant: Variant<'_>,
@@ -226,7 +237,11 @@ fn bytes_in<'a>(file: &'a NamedFile, variant: Variant<'_>) -> &'a [u8] {
 }
 
 // What is expected of a run.
-fn expected_of(alloc: Global, case: &Case, variant: Variant<'_>) -> Result<Outcome, NoMemory> {
+pub(crate) fn expected_of(
+    alloc: Global,
+    case: &Case,
+    variant: Variant<'_>,
+) -> Result<Outcome, NoMemory> {
     let mut folder = start_folder(alloc, case, variant)?;
     for out in case.outs.iter() {
         folder.put_file(out.name.as_str(), &out.bytes)?;
@@ -245,7 +260,7 @@ fn plan_failures(folder: &mut MemFolder, failures: &[Failure]) -> Result<(), NoM
     Ok(())
 }
 
-fn plan_failure(folder: &mut MemFolder, failure: &Failure) -> Result<(), NoMemory> {
+pub(crate) fn plan_failure(folder: &mut MemFolder, failure: &Failure) -> Result<(), NoMemory> {
     match failure {
         Failure::Open { name } => folder.fail_open(name.as_str()),
         Failure::Len { name } => folder.fail_len(name.as_str()),
@@ -261,7 +276,7 @@ fn plan_failure(folder: &mut MemFolder, failure: &Failure) -> Result<(), NoMemor
 }
 
 // Runs the words over the folder.
-fn run_words<H: Threads + Wait + Sync>(
+pub(crate) fn run_words<H: Threads + Wait + Sync>(
     rt: &H,
     alloc: Global,
     words: &[Word],
@@ -278,7 +293,7 @@ fn run_words<H: Threads + Wait + Sync>(
 }
 
 // Where an outcome isn't the expected one.
-fn differences_of(
+pub(crate) fn differences_of(
     alloc: Global,
     outcome: &Outcome,
     expected: &Outcome,
