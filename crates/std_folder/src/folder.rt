@@ -19,10 +19,10 @@ use std::rt::Files;
 use sub_types::NoMemory;
 use world::{Folder, FolderError};
 
-/// The current folder. A file that is read is opened once: its readers share the handle, which is closed when the last
-/// of them is given back, or with the folder. The file that was last created or appended to stays open for further
-/// appends, until another takes its place. So there are never more handles than names of files, and one that can't be
-/// had is a failed read or write like any other.
+/// The current folder. A file that is read is open once, by its name: its readers share the handle, which is closed when
+/// the last of them is given back, or with the folder. The file that was last created or appended to stays open for
+/// further appends, until another takes its place. So there are no more handles than names of files, unless one is
+/// created that is read just then. Where the system has no handle left, that is a failed read or write like any other.
 #[derive(Drop)]
 pub struct StdFolder<'a, R> {
     files: &'a R,
@@ -193,8 +193,8 @@ impl<R: Files<File = File>> Folder for StdFolder<'_, R> {
         Ok(())
     }
 
-    /// Makes the named file empty, and keeps it open for `append`. Readers that have it keep it as it is open; a new one
-    /// opens it anew.
+    /// Makes the named file empty, and keeps it open for `append`. Its readers keep the handle that they have, and
+    /// a later one opens the file anew.
     fn create(&mut self, alloc: Global, name: &str) -> Result<(), FolderError>
         ensures out { OnOk result (self.new.out ≡ Some name.now) }
         ensures reading { self.new.reading ≡ set.remove self.old.reading name.now }
