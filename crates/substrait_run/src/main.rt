@@ -1,14 +1,13 @@
 // The program: the commands of `run_top` over the files of the current folder.
 #![tactic(auto)]
 
-mod folder;
 mod notes;
 mod words;
 
-use folder::StdFolder;
 use notes::StdNotes;
 use run_top::{Status, command_main, exit_number};
 use std::process::ExitCode;
+use std_folder::StdFolder;
 use world::OpenGate;
 
 fn main(rt: HostRuntime) -> ExitCode {

@@ -1,5 +1,4 @@
 // Plans that are written, run and read back over real files, and folders in the place of files.
-use crate::folder::StdFolder;
 use crate::notes::StdNotes;
 use run_top::{command_main, exit_number};
 use std::fs;
@@ -9,6 +8,7 @@ use std::rt::Files;
 use std::sync::Wait;
 use std::test::Fail;
 use std::thread::Threads;
+use std_folder::StdFolder;
 use sub_types::Word;
 use world::{Folder, OpenGate, Reader};
 

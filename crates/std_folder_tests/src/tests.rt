@@ -1,0 +1,4 @@
+// Real files, each made by a test in the folder that it runs in.
+mod calls;
+mod readers;
+mod writes;
