@@ -5,7 +5,7 @@ use Rattle.row_steps.specs.Seen.{seen}
 use Rattle.run_words.specs.ReadingSeen.{reading_seen}
 use Rattle.run_accepted.proofs.AcceptedLaws.{accepted_kinds, accepted_few, accepted_names, accepted_fit}
 use Rattle.run_accepted.proofs.DoneLaws.{over_fault, over_rows}
-use Rattle.run_accepted.proofs.run.run_tables.Goals as goal
+use Rattle.run_accepted.proofs.run.run_rows.Goals as goal
 
 pub returns-in-Some-clause-files : goal.returns-in-Some-clause-files
 returns-in-Some-clause-files g c = λ opened are same zip.
