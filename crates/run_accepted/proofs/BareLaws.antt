@@ -1,6 +1,6 @@
 -- What a plan that is one bare read denotes: its table, as it is.
-use Rattle.std.proofs.Common.{◌≡◌, ◌∙◌, ℕ, List, [], ◌∷◌, ◌++◌, Bool, true, false, Option, Some, None, Ok, if◌then◌else◌, ◌==◌, eq-eqb, ◌<◌, nat_lt, map, length, get_or, slice_get, IfSome, IsSome, suc, zero-add, arith, refl, sym, ap, subst, rules}
-use Rattle.std.specs.List.{All, AllByRecursion, AllZip, flat_map, range_with_len}
+use Rattle.std.proofs.Common.{◌≡◌, ◌∙◌, ℕ, List, [], ◌∷◌, Bool, true, false, Option, Some, None, Ok, if◌then◌else◌, eq-eqb, ◌<◌, nat_lt, map, length, get_or, slice_get, IfSome, IsSome, suc, zero-add, arith, refl, sym, ap, subst, rules}
+use Rattle.std.specs.List.{All, AllByRecursion, AllZip}
 use Rattle.std.specs.Borrow.{Bor}
 use Rattle.std.specs.Option.{option_or, option_copied}
 use Rattle.std.proofs.lemmas.Bool.{le-ltb}

@@ -1,5 +1,5 @@
 // Plans that are one bare read: the table that they read is their answer, as it is.
-ghost use Rattle.std.specs.Prelude.{◌≡◌, ◌↔◌, IfSome, IsSome, IsTrue, length};
+ghost use Rattle.std.specs.Prelude.{◌≡◌, ◌↔◌, IfSome, IsSome, IsTrue};
 ghost use Rattle.std.specs.List.{All, AllZip};
 ghost use Rattle.batch.specs.BatchRows.{types_of};
 ghost use Rattle.plan_denote.specs.Subqueries.{denote_plan};

@@ -1,4 +1,4 @@
-use Rattle.std.proofs.Common.{◌≡◌, refl, ◌<◌, ℕ, arith}
+use Rattle.std.proofs.Common.{refl, ◌<◌, ℕ, arith}
 use Rattle.run_accepted.proofs.BareLaws.{count_places, place_at, each_place}
 use Rattle.run_accepted.proofs.bare.are_all_places.Goals as goal
 

@@ -24,6 +24,6 @@ returns-in-Some-clause-files g c = λ opened are same zip.
     let reading = reading_seen c.args.reading in
     let plan = c.args.plan.now in
     let done =
-        over_rows reading plan opened c.args.tables.now (table_stream c.in-Some.table.now) c.requires.accepted are same c.in-Some.ensures.rows c.in_default-end.is
-        ∙ ap (λ batches. done_with reading plan (map input_of opened) (flat_map rows_of batches)) (sym c.as_slice.ensures) in
+    over_rows reading plan opened c.args.tables.now (table_stream c.in-Some.table.now) c.requires.accepted are same c.in-Some.ensures.rows c.in_default-end.is
+    ∙ ap (λ batches. done_with reading plan (map input_of opened) (flat_map rows_of batches)) (sym c.as_slice.ensures) in
     subst (λ denoted. FitsFiles denoted (g.F.Folder.files c.args.folder.now) (g.F.Folder.files c.write_batches.new.folder) c.write_batches.result) (sym done) (c.write_batches.ensures.files (map input_of opened) zip)

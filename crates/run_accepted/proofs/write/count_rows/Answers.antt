@@ -1,10 +1,8 @@
-use Rattle.std.proofs.Common.{◌<◌, ap, length, arith}
-use Rattle.std.specs.List.{flat_map, sum_by}
+use Rattle.std.proofs.Common.{ap, arith}
+use Rattle.std.specs.List.{sum_by}
 use Rattle.std.proofs.lemmas.List.{take_all}
 use Rattle.std.proofs.lemmas.List.Sums.{sum_by_more_le}
 use Rattle.batch.specs.declared.batch.Batch.{Batch}
-use Rattle.batch.specs.BatchRows.{rows_of}
-use Rattle.run_accepted.specs.Done.{MAX_ROWS}
 use Rattle.run_accepted.proofs.RowLaws.{length_rows}
 use Rattle.run_accepted.proofs.write.count_rows.Goals as goal
 
