@@ -1,3 +1,4 @@
+pub mod BareLaws
 pub mod RowLaws
 pub mod AcceptedLaws
 pub mod DoneLaws

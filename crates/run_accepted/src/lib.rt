@@ -1,7 +1,9 @@
 //! The run of an accepted plan: the files of its read relations are opened and read, its rows are worked out over them, and the out
-//! file is written. Its meaning stands in its own `specs/`: `Done.antt` (`done_in`), and `Fits.antt` for what each answer leaves.
+//! file is written; the batches of a bare read are written as they are. Its meaning stands in its own `specs/`: `Done.antt`
+//! (`done_in`), `Fits.antt` for what each answer leaves, and `Bare.antt` for which plans are bare reads.
 #![tactic(auto)]
 
+mod bare;
 mod inputs;
 mod run;
 mod write;

@@ -13,8 +13,9 @@ ghost use Rattle.run_accepted.specs.Done as spec;
 ghost use Rattle.run_accepted.specs.Done.{IsAccepted, input_of};
 ghost use Rattle.run_accepted.specs.Fits.{FitsFiles, IsReceiptOf, IsOutcome};
 
+use crate::bare::bare_table;
 use crate::inputs::receipts_of;
-use crate::write::write_rows;
+use crate::write::{write_batches, write_rows};
 use plan_reads::reads_of;
 use plan_rows::run_plan;
 use plan_tables::{OpenRead, close_reads, open_reads, read_tables};
@@ -95,6 +96,43 @@ fn run_opened<F: Folder>(
 
 /// The same once the tables are read.
 fn run_tables<F: Folder>(
+    alloc: Global,
+    folder: &mut F,
+    reading: Reading<'_>,
+    plan: &Holed,
+    tables: &[Table],
+    receipts: Vec<PipeReceipt>,
+) -> Status
+    requires accepted { IsAccepted plan.now }
+    requires tables { AllZip IsTableOf (spec_reads_of plan.now) tables.now }
+    ensures files { (opened : List Opened) → map (λ one. one.read) opened ≡ spec_reads_of plan.now
+        → ((relation : ℕ) → tables_seen tables.now relation ≡ tested_tables opened relation)
+        → AllZip (IsReceiptOf reading.entry.workers) (map input_of opened) receipts.items
+        → FitsFiles (spec.done_over (reading_seen reading.entry) plan.now opened) (F.files folder.old) (F.files folder.new) result }
+    ensures named { IsOutcome plan.now result }
+    ensures reads_nothing { result ≢ Status.ReadFault }
+    ensures read_faults { F.read_faults folder.new ≡ F.read_faults folder.old }
+    ensures write_fault { result ≡ Status.WriteFault → Rose (F.write_faults folder.old) (F.write_faults folder.new) }
+    ensures lent { F.lent folder.new ≡ F.lent folder.old }
+{
+    if let Some(table) = bare_table(plan, tables) {
+        if let Some(fault) = table.end {
+            return Status::DataFault { fault };
+        }
+        return write_batches(
+            alloc,
+            folder,
+            reading,
+            plan,
+            table.batches.as_slice(),
+            receipts,
+        );
+    }
+    run_rows(alloc, folder, reading, plan, tables, receipts)
+}
+
+/// The same for any plan, by its rows.
+fn run_rows<F: Folder>(
     alloc: Global,
     folder: &mut F,
     reading: Reading<'_>,

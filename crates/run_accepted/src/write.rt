@@ -1,5 +1,5 @@
 // The out file of a plan's rows.
-ghost use Rattle.std.specs.Prelude.{◌≡◌, ◌≢◌, ◌≤◌, ℕ, List, Ok, length, nat_le};
+ghost use Rattle.std.specs.Prelude.{◌≡◌, ◌≢◌, ◌<◌, ◌≤◌, ℕ, List, MatchOption, Ok, length, nat_le};
 ghost use Rattle.std.specs.List.{All, AllZip, flat_map, sum_by};
 ghost use Rattle.sub_types.specs.Kind.{IsKind};
 ghost use Rattle.sub_types.specs.Value.{Fits};
@@ -57,14 +57,57 @@ pub fn write_rows<F: Folder>(
     };
     let types = plan.typed.rel.columns.as_slice();
     match rows_to_batches(alloc, types, rows) {
-        Ok(batches) => write_batches(alloc, folder, reading, plan, &batches, report),
+        Ok(batches) => write_counted(alloc, folder, reading, plan, &batches, report),
         Err(NoMemory) => Status::NoMemory,
     }
 }
 
+/// The same where the rows stand in batches, which are written as they are.
+#[tactic(auto, unfolding(crate::specs::Done::done_with))]
+pub fn write_batches<F: Folder>(
+    alloc: Global,
+    folder: &mut F,
+    reading: Reading<'_>,
+    plan: &Holed,
+    batches: &[Batch],
+    receipts: Vec<PipeReceipt>,
+) -> Status
+    requires same { length plan.now.typed.names ≡ length (columns_of plan.now.typed.rel) }
+    requires few { length (columns_of plan.now.typed.rel) ≤ 1024 }
+    requires typed { All (λ batch. types_of batch ≡ columns_of plan.now.typed.rel) batches.now }
+    ensures files { (inputs : List (ℕ × ℕ)) → AllZip (IsReceiptOf reading.entry.workers) inputs receipts.items
+        → FitsFiles (spec.done_with (reading_seen reading.entry) plan.now inputs (flat_map rows_of batches.now)) (F.files folder.old) (F.files folder.new) result }
+    ensures named { IsOutcome plan.now result }
+    ensures reads_nothing { result ≢ Status.ReadFault }
+    ensures read_faults { F.read_faults folder.new ≡ F.read_faults folder.old }
+    ensures write_fault { result ≡ Status.WriteFault → Rose (F.write_faults folder.old) (F.write_faults folder.new) }
+    ensures lent { F.lent folder.new ≡ F.lent folder.old }
+{
+    let Some(rows) = count_rows(batches) else {
+        return too_many_rows();
+    };
+    let report = Report { rows, receipts };
+    write_counted(alloc, folder, reading, plan, batches, report)
+}
+
+/// How many rows the batches have, unless an answer may not have so many.
+fn count_rows(batches: &[Batch]) -> Option<u64>
+    ensures { MatchOption result (spec.MAX_ROWS < length (flat_map rows_of batches.now)) (λ rows.
+        (rows ≡ length (flat_map rows_of batches.now)) × (rows ≤ spec.MAX_ROWS)) }
+{
+    let mut left = MAX_ROWS as u64;
+    for batch in batches {
+        if batch.rows > left {
+            return None;
+        }
+        left -= batch.rows;
+    }
+    Some(MAX_ROWS as u64 - left)
+}
+
 /// Writes the batches of an answer's rows, whose number and receipts are reported.
 #[tactic(auto, using(crate::proofs::RowLaws::few_rows))]
-fn write_batches<F: Folder>(
+fn write_counted<F: Folder>(
     alloc: Global,
     folder: &mut F,
     reading: Reading<'_>,

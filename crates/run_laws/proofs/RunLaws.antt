@@ -56,7 +56,7 @@ each_found plan tables typed are =
     (λ number. subst (λ (count : ℕ). count ≤ 1) (sym (as_many (reads_of plan) tables are number)) (one_read number plan typed.numbers))
 
 -- the rows of a table fit the types of its read relation
-rows_fit : (types : List Ty) (batches : List Batch) → All (HoldsTypes types) batches → AllByRecursion (Fits types) (flat_map rows_of batches)
+pub rows_fit : (types : List Ty) (batches : List Batch) → All (HoldsTypes types) batches → AllByRecursion (Fits types) (flat_map rows_of batches)
 rows_fit types batches all =
     each_joined (Fits types) rows_of batches
     (weakened (HoldsTypes types) (λ (batch : Batch). AllByRecursion (Fits types) (rows_of batch)) batches (recursion_from_All (HoldsTypes types) batches all)

@@ -1,0 +1,6 @@
+-- The first so many are in order.
+use Rattle.std.proofs.Common.{◌≡◌, ◌<◌, ℕ, get_or}
+use Rattle.run_accepted.proofs.bare.are_all_places.Given as goal
+
+abbrev pub invariant-loop-i : goal.invariant-loop-i
+invariant-loop-i l = (k : ℕ) → k < l.i → get_or l.places k 0 ≡ k
