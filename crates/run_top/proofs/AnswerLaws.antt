@@ -36,8 +36,8 @@ not_run status.WriteFault named = absurd named
 
 -- what comes of an accepted plan is an answer of `run`
 pub outcome_named : (plan : Holed) (outcome : Status) → IsAccepted plan → IsOutcome plan outcome → IsNamed outcome
-outcome_named plan (status.FileRefused file rule) accepted named = inr (plan, (accepted, named))
-outcome_named plan (status.DataFault fault) accepted named = (plan, (accepted, named))
+outcome_named plan (status.FileRefused file rule) accepted named = inr (plan, accepted, named)
+outcome_named plan (status.DataFault fault) accepted named = (plan, accepted, named)
 outcome_named plan status.ReadFault accepted named = tt
 outcome_named plan status.NoMemory accepted named = tt
 outcome_named plan (status.Ok report) accepted named = tt
