@@ -19,6 +19,11 @@ pub(super) fn handles(rt: &HostRuntime) -> usize {
     }
 }
 
+// Whether this process has so many handles more than before.
+pub(super) fn has_more(rt: &HostRuntime, before: usize, more: usize) -> bool {
+    before > 0 && handles(rt) == before.saturating_add(more)
+}
+
 // Makes a file without the folder.
 pub(super) fn puts(rt: &HostRuntime, name: &str, bytes: &[u8]) -> bool {
     fs::write(rt, name, bytes).is_ok()
