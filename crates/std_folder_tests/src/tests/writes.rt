@@ -8,17 +8,17 @@ fn pieces_go_to_the_end(rt: HostRuntime) {
     let mut folder = StdFolder::new(&rt);
     let before = handles(&rt);
     let seen = [
-        puts(&rt, "out", b"older and longer"),
-        creates(alloc, &mut folder, "out"),
-        holds(&rt, "out", b""),
+        puts(&rt, "made", b"older and longer"),
+        creates(alloc, &mut folder, "made"),
+        holds(&rt, "made", b""),
         has_more(&rt, before, 1),
-        appends(alloc, &mut folder, "out", b"abc"),
-        appends(alloc, &mut folder, "out", b""),
-        appends(alloc, &mut folder, "out", b"de"),
-        holds(&rt, "out", b"abcde"),
-        adds_beside(&rt, "out", b"XY"),
-        appends(alloc, &mut folder, "out", b"f"),
-        holds(&rt, "out", b"abcdeXYf"),
+        appends(alloc, &mut folder, "made", b"abc"),
+        appends(alloc, &mut folder, "made", b""),
+        appends(alloc, &mut folder, "made", b"de"),
+        holds(&rt, "made", b"abcde"),
+        adds_beside(&rt, "made", b"XY"),
+        appends(alloc, &mut folder, "made", b"f"),
+        holds(&rt, "made", b"abcdeXYf"),
         has_more(&rt, before, 1),
     ];
     assert_eq!(rt; first_false(&seen), None);
