@@ -4,7 +4,10 @@ use anyhow::{Context, Result, bail};
 use hex::decode;
 use plan_check::check_holes;
 use plan_decode::decode_plan;
+use plan_raw::PlanTree;
 use plan_rows::run_plan;
+use plan_typed::Holed;
+use row_engine::RowStream;
 use std::alloc::Global;
 
 /// A plan in hex, and its rows and its fault as lines of text.
@@ -42,10 +45,23 @@ impl Case {
 
     /// What the plan gives, as text.
     pub(crate) fn run(&self, alloc: Global) -> Result<String> {
-        let bytes = decode(alloc, self.plan.as_str())?;
-        let tree = decode_plan(alloc, &bytes).ok().context("unreadable")?;
-        let plan = check_holes(alloc, &tree).ok().context("refused")?;
-        let rows = run_plan(alloc, &plan, &[]).ok().context("no memory")?;
+        let rows = rows_of(alloc, self.plan.as_str())?;
         stream_text(alloc, &rows)
     }
+}
+
+/// The rows of a plan in hex.
+fn rows_of(alloc: Global, plan: &str) -> Result<RowStream> {
+    let checked = checked_plan(alloc, plan)?;
+    run_plan(alloc, &checked, &[]).ok().context("no memory")
+}
+
+fn checked_plan(alloc: Global, plan: &str) -> Result<Holed> {
+    let tree = tree_of(alloc, plan)?;
+    check_holes(alloc, &tree).ok().context("refused")
+}
+
+fn tree_of(alloc: Global, plan: &str) -> Result<PlanTree> {
+    let bytes = decode(alloc, plan)?;
+    decode_plan(alloc, &bytes).ok().context("unreadable")
 }
