@@ -1,0 +1,9 @@
+pub mod HeldLaws
+pub mod WrittenLaws
+pub mod LeafSteps
+pub mod ExprSteps
+pub mod RelSteps
+pub mod ReadableLaws
+pub mod NumberedLaws
+pub mod UseLaws
+pub mod SpellLaws
