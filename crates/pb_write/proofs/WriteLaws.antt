@@ -50,7 +50,7 @@ key_read number wire rest some within kind =
     let type : key % 8 ≡ wire = omega arith in
     let behind : drop (length (key_bytes number wire)) (key_bytes number wire ++ rest) ≡ rest = drop-append_seam (key_bytes number wire) rest in
     ap (option_and_then (λ found. cond (nat_lt found.0 (2 ^ 32) && nat_le 8 found.0)
-      (option_map (λ (payload : Content × ℕ). record { number = found.0 / 8; content = payload.0; size = found.1 + payload.1 }) (payload_of (found.0 % 8) (drop found.1 (key_bytes number wire ++ rest)))) None)) (varint_read key rest (omega arith))
+    (option_map (λ (payload : Content × ℕ). record { number = found.0 / 8; content = payload.0; size = found.1 + payload.1 }) (payload_of (found.0 % 8) (drop found.1 (key_bytes number wire ++ rest)))) None)) (varint_read key rest (omega arith))
     ∙ (λ i. cond (low i && high i) (option_map (λ (payload : Content × ℕ). record { number = field i; content = payload.0; size = length (key_bytes number wire) + payload.1 }) (payload_of (type i) (behind i))) None)
 
 -- a block behind its length
@@ -59,7 +59,7 @@ block_read bytes rest small =
     let size = varint_bytes (length bytes) in
     let behind : drop (length size) (size ++ (bytes ++ rest)) ≡ bytes ++ rest = drop-append_seam size (bytes ++ rest) in
     let fits : nat_le (length size + length bytes) (length (size ++ (bytes ++ rest))) ≡ true =
-        le-leb (length size + length bytes) (length (size ++ (bytes ++ rest))) (omega (arith, length-append size (bytes ++ rest), length-append bytes rest)) in
+    le-leb (length size + length bytes) (length (size ++ (bytes ++ rest))) (omega (arith, length-append size (bytes ++ rest), length-append bytes rest)) in
     ap (option_and_then (λ len. cond (nat_le (len.1 + len.0) (length (size ++ (bytes ++ rest)))) (Some (Bytes (take len.0 (drop len.1 (size ++ (bytes ++ rest)))), len.1 + len.0)) None)) (varint_read (length bytes) (bytes ++ rest) small)
     ∙ (λ i. cond (fits i) (Some (Bytes (take (length bytes) (behind i)), length size + length bytes)) None)
     ∙ ap (λ b. Some (Bytes b, length size + length bytes)) (take-append_seam bytes rest)

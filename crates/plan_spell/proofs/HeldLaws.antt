@@ -216,13 +216,13 @@ members_of_part oneof n (content ∷ payloads) =
     let rest = members_of_part oneof n payloads in
     ap (λ later. cond (has_number oneof n && has_wire_type (use_of (owner oneof) n) content) (field_with n content ∷ later) later) rest
     ∙ (elim (has_number oneof n) as (λ b. cond (b && has_wire_type (use_of (owner oneof) n) content)
-        (field_with n content ∷ cond b (map (field_with n) (filter (has_wire_type (use_of (owner oneof) n)) payloads)) []) (cond b (map (field_with n) (filter (has_wire_type (use_of (owner oneof) n)) payloads)) [])
-        ≡ cond b (map (field_with n) (cond (has_wire_type (use_of (owner oneof) n) content) (content ∷ filter (has_wire_type (use_of (owner oneof) n)) payloads) (filter (has_wire_type (use_of (owner oneof) n)) payloads))) []) [
+    (field_with n content ∷ cond b (map (field_with n) (filter (has_wire_type (use_of (owner oneof) n)) payloads)) []) (cond b (map (field_with n) (filter (has_wire_type (use_of (owner oneof) n)) payloads)) [])
+    ≡ cond b (map (field_with n) (cond (has_wire_type (use_of (owner oneof) n) content) (content ∷ filter (has_wire_type (use_of (owner oneof) n)) payloads) (filter (has_wire_type (use_of (owner oneof) n)) payloads))) []) [
       | true ↦ (elim (has_wire_type (use_of (owner oneof) n) content) as (λ b. cond b (field_with n content ∷ map (field_with n) (filter (has_wire_type (use_of (owner oneof) n)) payloads)) (map (field_with n) (filter (has_wire_type (use_of (owner oneof) n)) payloads))
           ≡ map (field_with n) (cond b (content ∷ filter (has_wire_type (use_of (owner oneof) n)) payloads) (filter (has_wire_type (use_of (owner oneof) n)) payloads))) [
-        | true ↦ refl
-        | false ↦ refl
-      ])
+            | true ↦ refl
+            | false ↦ refl
+          ])
       | false ↦ refl
     ])
 
@@ -252,7 +252,7 @@ winner_is oneof missing read write parts number content one same =
     let fields = fields_by write parts in
     let found : filter (is_member oneof) fields ≡ field_with number content ∷ [] = members_at oneof write parts ∙ one in
     let none : list_any (is_other (is_member oneof) number) fields ≡ false =
-        any_of_filtered (is_member oneof) (λ field. not (nat_eq field.number number)) fields ∙ ap (list_any (λ (field : Field). not (nat_eq field.number number))) found ∙ ap (λ b. not b || false) same in
+    any_of_filtered (is_member oneof) (λ field. not (nat_eq field.number number)) fields ∙ ap (list_any (λ (field : Field). not (nat_eq field.number number))) found ∙ ap (λ b. not b || false) same in
     ap (λ found. option_map_or (λ (won : Member). read won.number won.records) (option_map (λ (last : Field). record { number = last.number; records = behind_last (is_other (is_member oneof) last.number) fields }) (last_or None found)) missing) found
     ∙ ap (read number) (behind_none (is_other (is_member oneof) number) fields none)
 

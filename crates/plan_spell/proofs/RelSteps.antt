@@ -40,7 +40,6 @@ use Rattle.plan_leaves.specs.declared.schema.NamedStruct.{NamedStruct}
 use Rattle.plan_leaves.specs.declared.mask.MaskExpression.{MaskExpression}
 use Rattle.plan_raw.specs.declared.expr.RawExpr.{RawExpr}
 
-
 pub virtual_table_step : {n : ℕ} (node : VirtualTable) → Written n s.VirtualTable (rels.virtual_table_parts node) → virtual_table_by (reader n) (records_in n (rels.virtual_table_parts node)) ≡ node
 virtual_table_step {n} node w = (λ i. roll-VirtualTable (record { values = (children_are w 1 (read n s.LiteralRow) (spelled_at n s.LiteralRow) ((out-VirtualTable node).values) refl (w.back 1)) i; expressions = (children_are w 2 (read n s.ExpressionRow) (spelled_at n s.ExpressionRow) ((out-VirtualTable node).expressions) refl (w.back 2)) i })) ∙ roll-out-VirtualTable node
 
@@ -86,7 +85,6 @@ set_step _ rel is form w = absurd form
 pub cross_step : {n : ℕ} (o : Opened RawRel-F) (rel : RawRel) → roll-RawRel o ≡ rel → known.IsCross o → Written n s.CrossRel (rels.cross_parts o) → cross_by (reader n) (records_in n (rels.cross_parts o)) ≡ rel
 cross_step {n} (RawRel-F.Cross common left right) rel is form w = (λ i. r.Cross ((part_is w 1 (λ b. leaf.common_of (fields_of b)) (spelled_at n s.RelCommon) (common) refl (w.back 1)) i) ((child_is w 2 (read n s.Rel) (spelled_at n s.Rel) (left) refl (w.back 2)) i) ((child_is w 3 (read n s.Rel) (spelled_at n s.Rel) (right) refl (w.back 3)) i)) ∙ sym (r.rolls-Cross common left right) ∙ is
 cross_step _ rel is form w = absurd form
-
 
 -- the fields of a read, by its opened source
 abbrev read_with : Option RelCommon → Option NamedStruct → Option RawExpr → Option MaskExpression → Opened RawSource-F → Option RawExpr → List Part

@@ -178,7 +178,7 @@ module _ {levels : ℕ} {shape : Shape} {fields : List Part} (w : Written levels
   int32s_are values e =
       let small : All (FitsSigned w32) values = fit (PackedInt32s values) e in
       ap (map as_int32) (numbers_at (spelled_at levels) fields number w.numbered ∙ ap (λ held. flat_map number_content (contents (spelled_at levels) held)) e
-        ∙ packed_is (map whole_varint values) (All_map (FitsSigned w32) IsLong whole_varint values whole_long small))
+      ∙ packed_is (map whole_varint values) (All_map (FitsSigned w32) IsLong whole_varint values whole_long small))
       ∙ map_back (FitsSigned w32) as_int32 whole_varint values int32_whole small
 
   -- whether a message or bytes are there
