@@ -7,3 +7,4 @@ pub mod ReadableLaws
 pub mod NumberedLaws
 pub mod UseLaws
 pub mod SpellLaws
+pub mod Worked
