@@ -1,0 +1,10 @@
+pub mod HeldLaws
+pub mod WrittenLaws
+pub mod LeafSteps
+pub mod ExprSteps
+pub mod RelSteps
+pub mod ReadableLaws
+pub mod NumberedLaws
+pub mod UseLaws
+pub mod SpellLaws
+pub mod Worked

@@ -1,0 +1,8 @@
+pub mod Held
+pub mod Nodes
+pub mod Leaves
+pub mod Exprs
+pub mod Rels
+pub mod Parts
+pub mod Known
+pub mod Spelled
