@@ -70,7 +70,7 @@ unfolding spelled_at message_bytes record_bytes varint_bytes
 read_bytes =
     (λ i. message_bytes (fields_by (spelled_at 95) (rels.read_parts (out_read i))))
     ∙ (λ i. message_bytes (fields_by (spelled_at 95) (message 1 s.RelCommon None ∷ message 2 s.NamedStruct schema ∷ message 3 s.Expression None ∷ message 4 s.MaskExpression None
-        ∷ messages 5 s.VirtualTable (rels.virtual_tables (out_source i)) ∷ messages 6 s.LocalFiles (rels.local_files (out_source i)) ∷ messages 7 s.NamedTable (rels.named_tables (out_source i)) ∷ message 11 s.Expression None ∷ [])))
+    ∷ messages 5 s.VirtualTable (rels.virtual_tables (out_source i)) ∷ messages 6 s.LocalFiles (rels.local_files (out_source i)) ∷ messages 7 s.NamedTable (rels.named_tables (out_source i)) ∷ message 11 s.Expression None ∷ [])))
     ∙ ap (λ ty. message_bytes (field_with 2 (Bytes (message_bytes (field_with 1 (Bytes (120 ∷ [])) ∷ field_with 2 (Bytes (message_bytes (field_with 1 (Bytes ty) ∷ []))) ∷ []))) ∷ field_with 5 (Bytes (spelled_at 95 s.VirtualTable table)) ∷ [])) type_bytes
     ∙ ap (λ bytes. message_bytes (field_with 2 (Bytes (10 ∷ 1 ∷ 120 ∷ 18 ∷ 6 ∷ 10 ∷ 4 ∷ 58 ∷ 2 ∷ 16 ∷ 2 ∷ [])) ∷ field_with 5 (Bytes bytes) ∷ [])) table_bytes
 
