@@ -124,6 +124,21 @@ def references_to_columns(count):
     return root(filtered(message(8, message(1, column(0)), options)), [b"c0"])
 
 
+# How keys of grouping expressions are told apart (crates/plan_keys): the factor of their digests, and how many slots the
+# table of a million groups has.
+FACTOR = 0x9E3779B97F4A7C15F39CC0605CEDC835
+SLOTS = 2**23 - 1
+
+
+def of_one_slot(place):
+    """A literal, of those whose keys all have one slot."""
+    digest = 0
+    for part in (0, 0, 4, 2, 0):  # a constant, required, of the kind i64, a whole number; and the number itself, left out
+        digest = (digest * FACTOR + part) % 2**128
+    low, high = digest % 2**64, digest >> 64
+    return literal((((((low ^ high) // SLOTS + 1 + place) * SLOTS) ^ high) - low) % 2**64)
+
+
 PLANS = {
     "declarations, each called once": lambda: declarations_and_calls(260_000),
     "calls of the last declaration": lambda: calls_of_the_last(260_000),
@@ -133,6 +148,7 @@ PLANS = {
     "grouping expressions of one set": lambda: groupings(1, 1_400_000, literal),
     "grouping expressions of 64 sets": lambda: groupings(64, 20_000, literal),
     "scattered grouping expressions of 64 sets": lambda: groupings(64, 17_000, lambda place: literal(place * 0x1E3779B97F4A7C15 % (1 << 62))),
+    "grouping expressions of 64 sets whose keys have one slot": lambda: groupings(64, 13_500, of_one_slot),
     "equal grouping expressions of 64 sets": lambda: groupings(64, 20_000, lambda place: literal(place % 1_000)),
     "own grouping expressions": lambda: own_expressions(1_100_000),
     "999 relations of 1,024 columns": lambda: wide(960, 1_024),
