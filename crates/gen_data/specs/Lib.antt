@@ -1,0 +1,5 @@
+pub mod Rows
+pub mod Plan
+pub mod Checked
+pub mod Files
+pub mod Summary

@@ -1,0 +1,39 @@
+-- What the demo says: its rows, a line each.
+use Rattle.std.specs.Prelude.{ℕ, List, [], ◌∷◌, ◌++◌, None, ◌==◌, codes, if◌then◌else◌}
+use Rattle.std.specs.Fmt.{signed_decimal}
+use Rattle.std.specs.List.{flat_map}
+use Rattle.sub_types.specs.Stream.{Stream, rows_alone, ended}
+use Rattle.sub_types.specs.declared.value.Value.{Value}
+use Rattle.sub_types.specs.declared.value.Value.TheVariants as values
+use Rattle.plan_denote.specs.Denote.{Tables}
+use Rattle.plan_denote.specs.Subqueries.{denote_plan}
+use Rattle.gen_data.specs.Rows.{order_rows, line_rows}
+use Rattle.gen_data.specs.Checked.{demo_plan}
+
+-- the tables of the demo's read relations: 3 reads the lines, and 4 the orders
+abbrev pub demo_tables : ℕ → Tables
+demo_tables number relation =
+    if relation == 3 then rows_alone (line_rows number)
+    else if relation == 4 then rows_alone (order_rows number)
+    else ended None
+
+-- the rows that the demo's plan denotes over so many orders and their lines
+unfoldable pub demo_rows : ℕ → List (List Value)
+demo_rows number = (denote_plan (demo_tables number) demo_plan).rows
+
+-- a text as it is, a whole number in decimal digits, and `null`; the demo's rows have no other values
+abbrev pub value_text : Value → List ℕ
+value_text values.Null = codes "null"
+value_text (values.Int n) = signed_decimal n
+value_text (values.Bytes text) = text
+value_text _ = []
+
+-- the values of a row with one space between them, and the end of the line
+abbrev pub row_line : List Value → List ℕ
+row_line [] = codes "\n"
+row_line (value ∷ []) = value_text value ++ codes "\n"
+row_line (value ∷ next ∷ rest) = value_text value ++ codes " " ++ row_line (next ∷ rest)
+
+-- a line for each row
+unfoldable pub summary_of : ℕ → List ℕ
+summary_of number = flat_map row_line (demo_rows number)
