@@ -87,16 +87,23 @@ measure_of function ty = roll-Measure (record {
   filter = None;
 })
 
--- by region: the sum of the quantities, and how many there are
-abbrev pub regions : RawRel
-regions = r.Aggregate None (Some ordered_lines)
-    (roll-Grouping (record { grouping_expressions = column 3 ∷ []; expression_references = [] }) ∷ [])
-    (measure_of 2 (t.I64 1) ∷ measure_of 3 (t.I64 2) ∷ [])
-    []
+-- the sum of the quantities, and how many there are
+abbrev pub measures : List Measure
+measures = measure_of 2 (t.I64 1) ∷ measure_of 3 (t.I64 2) ∷ []
 
--- the regions from the least on, nulls first
+-- by region
+abbrev pub groupings : List Grouping
+groupings = roll-Grouping (record { grouping_expressions = column 3 ∷ []; expression_references = [] }) ∷ []
+
+abbrev pub regions : RawRel
+regions = r.Aggregate None (Some ordered_lines) groupings measures []
+
+-- from the least region on, nulls first
+abbrev pub sorts : List SortField
+sorts = roll-SortField (record { expr = Some (column 0); direction = 1 }) ∷ []
+
 abbrev pub ordered_regions : RawRel
-ordered_regions = r.Sort None (Some regions) (roll-SortField (record { expr = Some (column 0); direction = 1 }) ∷ [])
+ordered_regions = r.Sort None (Some regions) sorts
 
 abbrev pub result_names : List (List ℕ)
 result_names = codes "region" ∷ codes "sum" ∷ codes "count" ∷ []

@@ -20,9 +20,13 @@ order_row order = values.Int (pos order) ∷ values.Bytes (region_of order) ∷ 
 abbrev pub quantity_of : ℕ → Value
 quantity_of line = if line % 11 == 10 then values.Null else values.Int (pos (line % 10))
 
--- a line: the number of its order, which may be one that isn't there, and its quantity
+-- the order of a line; one of them isn't there
+abbrev pub order_of : ℕ → ℕ → ℕ
+order_of number line = (7 * line) % suc number
+
+-- a line: the number of its order, and its quantity
 abbrev pub line_row : ℕ → ℕ → List Value
-line_row number line = values.Int (pos ((7 * line) % suc number)) ∷ quantity_of line ∷ []
+line_row number line = values.Int (pos (order_of number line)) ∷ quantity_of line ∷ []
 
 -- so many orders
 unfoldable pub order_rows : ℕ → List (List Value)

