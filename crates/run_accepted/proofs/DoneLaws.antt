@@ -16,7 +16,7 @@ use Rattle.run_laws.proofs.RunLaws.{denote_in_memory}
 use Rattle.run_words.specs.Words.{Reading}
 use Rattle.run_words.specs.declared.status.Status.{Status}
 use Rattle.run_words.specs.declared.status.Status.TheVariants as status
-use Rattle.run_accepted.specs.Done.{IsAccepted, input_of, whole, done_with, done_over}
+use Rattle.run_accepted.specs.Done.{IsAccepted, input_of, whole, rows_over, done_with, done_over}
 use Rattle.run_accepted.proofs.AcceptedLaws.{accepted_typed}
 
 -- what is written of a stream
@@ -38,6 +38,19 @@ module _ (reading : Reading) (plan : Holed) (opened : List Opened) (tables : Lis
 
   pub over_rows : s.end ≡ None → done_over reading plan opened ≡ done_with reading plan (map input_of opened) s.rows
   over_rows end = subst (λ (e : Option Fault). written_of reading plan opened (record { rows = s.rows; end = e })) end in_memory
+
+module _ (plan : Holed) (opened : List Opened) (tables : List Table) (s : Stream Row) (accepted : IsAccepted plan)
+    (are : map (λ (one : Opened). one.read) opened ≡ reads_of plan) (same : (relation : ℕ) → tables_seen tables relation ≡ tested_tables opened relation) (is : s ≡ denote_plan (tables_seen tables) plan) where
+  -- the rows over the tables in memory are those over the files
+  rows_in_memory : rows_over plan opened ≡ whole s
+  unfolding rows_over
+  rows_in_memory = sym (ap whole (is ∙ denote_in_memory plan opened tables (accepted_typed plan accepted) are same))
+
+  pub ran_fault : (fault : Fault) → s.end ≡ Some fault → rows_over plan opened ≡ Err (status.DataFault fault)
+  ran_fault fault end = rows_in_memory ∙ ap (λ (e : Option Fault). whole (record { rows = s.rows; end = e })) end
+
+  pub ran_rows : s.end ≡ None → rows_over plan opened ≡ Ok s.rows
+  ran_rows end = rows_in_memory ∙ ap (λ (e : Option Fault). whole (record { rows = s.rows; end = e })) end
 
 -- one item more on both sides
 zip_push : {A B : Type 0} (R : A → B → Type 0) (xs : List A) (ys : List B) (x : A) (y : B) → AllZip R xs ys → R x y → AllZip R (xs ++ x ∷ []) (ys ++ y ∷ [])

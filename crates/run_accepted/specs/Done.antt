@@ -64,7 +64,11 @@ done_with reading plan inputs rows =
     then Ok (done_of reading plan inputs rows)
     else Err (status.DataFault (record { relation = 0; kind = kinds.TooManyRows }))
 
--- the rows that the plan denotes over its tables
+-- the rows that the plan denotes over its tables, unless a fault ends them
+unfoldable pub rows_over : Holed → List Opened → Result (List Row) Status
+rows_over plan opened = whole (denote_plan (tables_of opened) plan)
+
+-- the same as a file
 unfoldable pub done_over : Reading → Holed → List Opened → Result Done Status
 done_over reading plan opened = do
   rows ← whole (denote_plan (tables_of opened) plan)

@@ -14,7 +14,11 @@ use Rattle.run_words.specs.declared.status.PipeReceipt.{PipeReceipt}
 use Rattle.run_words.specs.declared.status.Report.{Report}
 use Rattle.run_words.specs.declared.status.Status.{Status}
 use Rattle.run_words.specs.declared.status.Status.TheVariants as status
-use Rattle.run_accepted.specs.Done.{Done}
+use Rattle.table_open.specs.declared.error.FileRule.{FileRule}
+use Rattle.sub_types.specs.ResultSteps.{◌>>=◌}
+use Rattle.plan_tables.specs.Tables.{Opened}
+use Rattle.run_accepted.specs.declared.rows.Ran.{Ran}
+use Rattle.run_accepted.specs.Done.{Done, input_of, unrefused, rows_over}
 
 -- the receipt of a read relation of so many batches: each was claimed once, and was finished by one worker or is left
 pub record IsReceiptOf (workers : ℕ) (input : ℕ × ℕ) (receipt : PipeReceipt) : Type 0 where
@@ -50,3 +54,15 @@ IsOutcome plan status.ReadFault = Unit {0}
 IsOutcome plan status.WriteFault = Unit {0}
 IsOutcome plan status.NoMemory = Unit {0}
 IsOutcome plan _ = ⊥
+
+-- the rows that an accepted plan denotes over its opened read relations, and a receipt for each of these, in order
+pub record IsRan (plan : Holed) (workers : ℕ) (opened : List Opened) (ran : Ran) : Type 0 where
+  pub rows : rows_over plan opened ≡ Ok ran.rows.items
+  pub receipts : AllZip (IsReceiptOf workers) (map input_of opened) ran.receipts.items
+
+-- What comes of a plan whose read relations are opened, or refused. A read fault and want of memory are free.
+abbrev pub FitsRows : Result (List Opened) (ℕ × FileRule) → Holed → ℕ → Result Ran Status → Type 0
+FitsRows opened plan workers (Ok ran) = IsOkAnd opened (λ found. IsRan plan workers found ran)
+FitsRows opened plan workers (Err status.ReadFault) = Unit {0}
+FitsRows opened plan workers (Err status.NoMemory) = Unit {0}
+FitsRows opened plan workers (Err refusal) = (unrefused opened >>= rows_over plan) ≡ Err refusal

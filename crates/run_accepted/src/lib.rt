@@ -5,7 +5,9 @@
 
 mod bare;
 mod inputs;
+mod rows;
 mod run;
 mod write;
 
+pub use rows::{Ran, rows_of_plan};
 pub use run::run_accepted;

@@ -4,6 +4,7 @@ use Rattle.std.specs.List.{list_all}
 use Rattle.std.specs.Option.{option_map}
 use Rattle.std.specs.Str.{bytes_eq}
 use Rattle.std.specs.Str.Parse.{digits_value}
+use Rattle.sub_types.specs.OptionSteps.{◌>>=◌}
 use Rattle.table_open.specs.Words.{name_in, file_in}
 use Rattle.run_words.specs.declared.words.Command.{Command}
 use Rattle.run_words.specs.declared.words.Command.TheVariants as commands
@@ -54,7 +55,30 @@ unfoldable pub plan_to_check : List (List ℕ) → Option (List ℕ)
 plan_to_check (command ∷ plan ∷ []) = if bytes_eq command (codes "check") && not (bytes_eq plan []) then Some plan else None
 plan_to_check _ = None
 
+-- the demo of so many orders, on so many workers
+pub record DemoReading : Type 0 where
+  pub number : ℕ
+  pub workers : ℕ
+
+-- the most orders of the demo
+abbrev pub MAX_ORDERS : ℕ
+MAX_ORDERS = 200000
+
+-- `demo NUMBER WORKERS`, with 1 to 200,000 orders and 1 to 64 workers
+unfoldable pub demo_of : List (List ℕ) → Option DemoReading
+demo_of (command ∷ number ∷ workers ∷ []) =
+    if bytes_eq command (codes "demo")
+    then (do
+      orders ← number_within MAX_ORDERS number
+      seats ← number_within 64 workers
+      Some (record { number = orders; workers = seats }))
+    else None
+demo_of _ = None
+
 -- the command that the first word names; what names no command is answered by `run`, as faulty words
 abbrev pub command_of : List (List ℕ) → Command
-command_of (word ∷ words) = if bytes_eq word (codes "check") then commands.Check else commands.Run
+command_of (word ∷ words) =
+    if bytes_eq word (codes "check") then commands.Check
+    else if bytes_eq word (codes "demo") then commands.Demo
+    else commands.Run
 command_of [] = commands.Run

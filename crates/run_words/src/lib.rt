@@ -8,9 +8,9 @@ mod receipts;
 mod status;
 mod words;
 
-pub use line::{say_check_line, say_line};
+pub use line::{say_check_line, say_line, say_pieces};
 pub use plan_verdict::Rule;
 pub use receipts::one_receipt;
 pub use status::{PipeReceipt, Report, Status, exit_number};
 pub use table_open::FileRule;
-pub use words::{Command, Reading, command_of, read_check, read_words};
+pub use words::{Command, DemoReading, Reading, command_of, read_check, read_demo, read_words};

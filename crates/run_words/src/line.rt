@@ -1,7 +1,8 @@
 // The line that is said of an answer, in pieces that are borrowed or lie in fixed buffers.
-ghost use Rattle.std.specs.Prelude.{◌≡◌, [], ◌∷◌, ◌++◌, decimal, codes};
+ghost use Rattle.std.specs.Prelude.{◌≡◌, [], ◌∷◌, ◌++◌, IsTrue, decimal, codes};
 ghost use Rattle.std.specs.Option.{option_map_or};
 ghost use Rattle.std.specs.List.{flat_map};
+ghost use Rattle.world.specs.Notes.{said};
 ghost use Rattle.run_words.specs.Lines.{rule_words, file_rule_words, fault_words, told_text, line_of, check_line_of};
 ghost use Rattle.run_words.specs.Said.{IsSaid, words_seen};
 
@@ -122,15 +123,17 @@ fn say_three<'a, N: Notes>(
     );
 }
 
-// Says the pieces one after the other.
-fn say_pieces<N: Notes>(alloc: Global, notes: &mut N, pieces: &[&[u8]])
-    ensures { IsSaid (N.text notes.old) (N.text notes.new) (N.failures notes.old) (N.failures notes.new) (flat_map (λ piece. piece.now) pieces.now) }
+/// Says the pieces one after the other, up to the first that isn't said whole. Whether all of them were said.
+pub fn say_pieces<N: Notes>(alloc: Global, notes: &mut N, pieces: &[&[u8]]) -> bool
+    ensures said { IsSaid (N.text notes.old) (N.text notes.new) (N.failures notes.old) (N.failures notes.new) (flat_map (λ piece. piece.now) pieces.now) }
+    ensures whole { IsTrue result → N.text notes.new ≡ said (N.text notes.old) (flat_map (λ piece. piece.now) pieces.now) }
 {
     for piece in pieces {
         let Ok(()) = notes.say(alloc, piece) else {
-            return;
+            return false;
         };
     }
+    true
 }
 
 // Says what is refused or faulty: a number and a name with its numbers.

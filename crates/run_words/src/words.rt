@@ -3,14 +3,17 @@ ghost use Rattle.std.specs.Prelude.{◌≡◌, ◌≤◌, ◌↔◌, IsTrue, IfS
 ghost use Rattle.std.specs.List.{list_all};
 ghost use Rattle.std.specs.Option.{option_map};
 ghost use Rattle.run_words.specs.Words as spec;
-ghost use Rattle.run_words.specs.Words.{number_within, IsNumber, are_names, is_binding, are_bindings, reading_of, plan_to_check};
-ghost use Rattle.run_words.specs.ReadingSeen.{reading_seen};
+ghost use Rattle.run_words.specs.Words.{number_within, IsNumber, demo_of, are_names, is_binding, are_bindings, reading_of, plan_to_check};
+ghost use Rattle.run_words.specs.ReadingSeen.{reading_seen, demo_seen};
 
 use itoa::Buffer;
 use sub_types::Word;
 
 /// The most workers of a run.
 const MAX_WORKERS: u32 = 64;
+
+/// The most orders of the demo.
+const MAX_ORDERS: u32 = 200_000;
 
 /// The most bindings of a run.
 const MAX_BINDINGS: usize = 1024;
@@ -24,11 +27,19 @@ pub struct Reading<'a> {
     pub bindings: &'a [Word],
 }
 
+/// `demo` of so many orders, on so many workers.
+#[derive(Clone, Copy, Debug)]
+pub struct DemoReading {
+    pub number: u32,
+    pub workers: u32,
+}
+
 /// The command that a command line is of.
 #[derive(Clone, Copy, Debug)]
 pub enum Command {
     Run,
     Check,
+    Demo,
 }
 
 /// The command that the first word names. What names no command is answered by `run`, as faulty words.
@@ -38,10 +49,10 @@ pub fn command_of(words: &[Word]) -> Command
     let [word, ..] = words else {
         return Command::Run;
     };
-    if word.text() == "check" {
-        Command::Check
-    } else {
-        Command::Run
+    match word.text() {
+        "check" => Command::Check,
+        "demo" => Command::Demo,
+        _ => Command::Run,
     }
 }
 
@@ -84,6 +95,25 @@ pub fn read_check(words: &[Word]) -> Option<&str>
     Some(plan.text())
 }
 
+/// What the words of `demo NUMBER WORKERS` say, or `None` where they aren't that.
+#[tactic(auto, unfolding(crate::specs::Words::demo_of))]
+pub fn read_demo(words: &[Word]) -> Option<DemoReading>
+    ensures reading { option_map demo_seen result ≡ demo_of words.now }
+    ensures number { IfSome result (λ reading. (1 ≤ reading.number) × (reading.number ≤ MAX_ORDERS)) }
+    ensures workers { IfSome result (λ reading. 1 ≤ reading.workers) }
+{
+    let [command, orders, seats] = words else {
+        return None;
+    };
+    if command.text() != "demo" {
+        return None;
+    }
+    Some(DemoReading {
+        number: number(orders.text(), MAX_ORDERS)?,
+        workers: number(seats.text(), MAX_WORKERS)?,
+    })
+}
+
 // Both files are named, and by two names.
 fn names_two_files(plan: &str, out: &str) -> bool
     ensures { result ≡ are_names plan.now out.now }
@@ -123,7 +153,7 @@ fn binds(word: &str, out: &str) -> bool
 // The number from 1 to `most` whose decimal digits are the word.
 fn number(word: &str, most: u32) -> Option<u32>
     ensures number { result ≡ number_within most word.now }
-    ensures some { IfSome result (λ n. 1 ≤ n) }
+    ensures some { IfSome result (λ n. (1 ≤ n) × (n ≤ most)) }
 {
     let Ok(number) = word.parse::<u32>() else {
         return None;

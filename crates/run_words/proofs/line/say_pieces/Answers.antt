@@ -13,8 +13,8 @@ loop-piece-preserved g c =
       never_falls = omega (arith, c.in-Ok.ensures.cause.never_falls, c.loop-piece.invariant.never_falls);
     }
 
-pub returns-in_default : goal.returns-in_default
-returns-in_default g c =
+pub returns-in_default-clause-said : goal.returns-in_default-clause-said
+returns-in_default-clause-said g c =
     let text = g.N.Notes.text in
     let err = c.in_default.ensures.err in
     let part = said_part (text c.args.notes.now) (text c.loop-piece.notes) (text c.say.new.self) c.args.pieces.now c.loop-piece.piece-index err.0 (omega arith) c.loop-piece.invariant.text err.1 in

@@ -1,0 +1,123 @@
+// The rows of an accepted plan, of which nothing is written.
+ghost use Rattle.std.specs.Prelude.{◌≡◌, ◌≢◌, ◌-◌, ◌≤◌, ℕ, List, Some, Ok, Err, length, map};
+ghost use Rattle.std.specs.List.{AllZip};
+ghost use Rattle.world.specs.Counts.{Rose};
+ghost use Rattle.world.specs.Files.{Files};
+ghost use Rattle.plan_reads.specs.Reads.{reads_of as spec_reads_of};
+ghost use Rattle.plan_tables.specs.Open.{open_seen, AllTold, AllReady, count_open};
+ghost use Rattle.plan_tables.specs.Read.{IsTableOf};
+ghost use Rattle.plan_tables.specs.Tables as spec;
+ghost use Rattle.plan_tables.specs.Tables.{Opened, tested_tables};
+ghost use Rattle.row_engine.specs.Tables.{tables_seen};
+ghost use Rattle.run_accepted.specs.Done.{IsAccepted, input_of};
+ghost use Rattle.run_accepted.specs.Fits.{FitsRows, IsReceiptOf};
+
+use crate::inputs::receipts_of;
+use plan_leaves::Items;
+use plan_reads::reads_of;
+use plan_rows::run_plan;
+use plan_tables::{OpenRead, close_reads, open_reads, read_tables};
+use plan_typed::Holed;
+use row_engine::Table;
+use run_words::{PipeReceipt, Status};
+use std::alloc::Global;
+use sub_types::{NoMemory, Value, Word};
+use table_open::TableError;
+use world::{Folder, FolderError};
+
+/// The rows of a plan, and the receipts of its read relations.
+#[derive(Drop)]
+pub struct Ran {
+    pub rows: Vec<Items<Value>>,
+    pub receipts: Vec<PipeReceipt>,
+}
+
+/// Runs an accepted plan over the files of a folder, those that the words bind to the names of its read relations' tables, and gives its
+/// rows with a receipt of so many workers for each read relation, or the first refusal or fault. Nothing is written. All readers are
+/// given back.
+pub fn rows_of_plan<F: Folder>(
+    alloc: Global,
+    folder: &mut F,
+    bindings: &[Word],
+    workers: u32,
+    plan: &Holed,
+) -> Result<Ran, Status>
+    requires workers { 1 ≤ workers }
+    requires few_words { length bindings.now ≤ 1024 }
+    requires accepted { IsAccepted plan.now }
+    ensures rows { (files : Files) → F.files folder.old ≡ Some files
+        → FitsRows (spec.open_reads files bindings.now (spec_reads_of plan.now)) plan.now workers result }
+    ensures kept { F.files folder.new ≡ F.files folder.old }
+    ensures read_fault { result ≡ Err Status.ReadFault → Rose (F.read_faults folder.old) (F.read_faults folder.new) }
+    ensures lent { F.lent folder.new ≡ F.lent folder.old }
+{
+    let reads = match reads_of(alloc, plan) {
+        Ok(reads) => reads,
+        Err(NoMemory) => return Err(Status::NoMemory),
+    };
+    match open_reads(alloc, folder, bindings, reads) {
+        Ok(opened) => rows_of_opened(alloc, folder, workers, plan, opened),
+        Err(TableError::Refused { file, rule }) => Err(Status::FileRefused { file, rule }),
+        Err(TableError::ReadFault) => Err(Status::ReadFault),
+        Err(TableError::NoMemory) => Err(Status::NoMemory),
+    }
+}
+
+// The same once the files are open.
+fn rows_of_opened<F: Folder>(
+    alloc: Global,
+    folder: &mut F,
+    workers: u32,
+    plan: &Holed,
+    opened: Vec<OpenRead<F::R>>,
+) -> Result<Ran, Status>
+    requires workers { 1 ≤ workers }
+    requires accepted { IsAccepted plan.now }
+    requires reads { map (λ one. one.read) opened.items ≡ spec_reads_of plan.now }
+    requires ready { AllReady F.R.bytes opened.items }
+    ensures rows { AllTold F.R.bytes opened.items → FitsRows (Ok (map (open_seen F.R.bytes) opened.items)) plan.now workers result }
+    ensures kept { F.files folder.new ≡ F.files folder.old }
+    ensures read_fault { result ≡ Err Status.ReadFault → Rose (F.read_faults folder.old) (F.read_faults folder.new) }
+    ensures lent { F.lent folder.new ≡ F.lent folder.old - count_open opened.items }
+{
+    let receipts = match receipts_of(alloc, &opened, workers) {
+        Ok(receipts) => receipts,
+        Err(NoMemory) => {
+            let _ = close_reads(alloc, folder, opened);
+            return Err(Status::NoMemory);
+        }
+    };
+    match read_tables(alloc, folder, opened) {
+        Ok(tables) => rows_of_tables(alloc, plan, &tables, receipts),
+        Err(FolderError::Failed) => Err(Status::ReadFault),
+        Err(FolderError::NoMemory) => Err(Status::NoMemory),
+    }
+}
+
+// The same once the tables are read.
+fn rows_of_tables(
+    alloc: Global,
+    plan: &Holed,
+    tables: &[Table],
+    receipts: Vec<PipeReceipt>,
+) -> Result<Ran, Status>
+    requires accepted { IsAccepted plan.now }
+    requires tables { AllZip IsTableOf (spec_reads_of plan.now) tables.now }
+    ensures rows { (workers : ℕ) (opened : List Opened) → map (λ one. one.read) opened ≡ spec_reads_of plan.now
+        → ((relation : ℕ) → tables_seen tables.now relation ≡ tested_tables opened relation)
+        → AllZip (IsReceiptOf workers) (map input_of opened) receipts.items
+        → FitsRows (Ok opened) plan.now workers result }
+    ensures reads_nothing { result ≢ Err Status.ReadFault }
+{
+    let stream = match run_plan(alloc, plan, tables) {
+        Ok(stream) => stream,
+        Err(NoMemory) => return Err(Status::NoMemory),
+    };
+    if let Some(fault) = stream.end {
+        return Err(Status::DataFault { fault });
+    }
+    Ok(Ran {
+        rows: stream.rows.into_vec(),
+        receipts,
+    })
+}
