@@ -1,4 +1,4 @@
-use Rattle.std.proofs.Common.{◌≡◌, ◌∙◌, Some, None, ap, sym, refl, rules}
+use Rattle.std.proofs.Common.{◌≡◌, ◌∙◌, Ok, Some, None, ap, sym, refl, rules}
 use Rattle.row_steps.specs.Seen.{seen}
 use Rattle.run_accepted.proofs.DoneLaws.{ran_fault, ran_rows}
 use Rattle.run_accepted.proofs.rows.rows_of_tables.Goals as goal
@@ -9,4 +9,4 @@ returns-in-Some-clause-rows c = λ workers opened are same zip.
 
 pub returns-clause-rows : goal.returns-clause-rows
 returns-clause-rows c = λ workers opened are same zip.
-    record { rows = ran_rows c.args.plan.now opened c.args.tables.now (seen c.in-Ok.stream) c.requires.accepted are same c.in-Ok.ensures c.in_default.is; receipts = zip }
+    record { rows = ran_rows c.args.plan.now opened c.args.tables.now (seen c.in-Ok.stream) c.requires.accepted are same c.in-Ok.ensures c.in_default.is ∙ ap Ok (sym c.into_vec.ensures); receipts = zip }

@@ -1,0 +1,30 @@
+-- What the demo answers and says.
+use Rattle.std.specs.Prelude.{◌≡◌, ℕ, List, ◌∷◌, Option, Some, None, IsOkAnd, codes, decimal}
+use Rattle.run_words.specs.Lines.{line_of}
+use Rattle.run_words.specs.Words.{DemoReading}
+use Rattle.run_words.specs.declared.status.Report.{Report}
+use Rattle.run_words.specs.declared.status.Status.{Status}
+use Rattle.run_words.specs.declared.status.Status.TheVariants as status
+use Rattle.run_accepted.specs.Fits.{IsReport}
+use Rattle.gen_data.specs.Files.{demo_files, demo_bindings}
+use Rattle.gen_data.specs.Summary.{summary_of}
+use Rattle.run_top.specs.Answer.{answer}
+
+-- the words of a run of the demo's plan over its tables
+abbrev pub demo_command : ℕ → List (List ℕ)
+demo_command workers = codes "run" ∷ codes "plan" ∷ codes "out" ∷ decimal workers ∷ demo_bindings
+
+-- a report that this run over the demo's files may have
+abbrev pub IsDemoReport : DemoReading → Report → Type 0
+IsDemoReport reading report = IsOkAnd (answer (demo_command reading.workers) (demo_files reading.number)) (λ done. IsReport done report)
+
+-- The answers of the demo by its words: without a reading they are faulty, and else it is done, unless there is no memory.
+abbrev pub IsDemoAnswer : Option DemoReading → Status → Type 0
+IsDemoAnswer None answered = answered ≡ status.Usage
+IsDemoAnswer (Some reading) (status.Ok report) = IsDemoReport reading report
+IsDemoAnswer (Some reading) refusal = refusal ≡ status.NoMemory
+
+-- the summary of a demo that is done, and the line of any other answer
+unfoldable pub demo_text_of : Option DemoReading → Status → List ℕ
+demo_text_of (Some reading) (status.Ok report) = summary_of reading.number
+demo_text_of _ answered = line_of answered

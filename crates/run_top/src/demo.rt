@@ -1,0 +1,92 @@
+// The command `demo`.
+ghost use Rattle.std.specs.Prelude.{◌≡◌, ◌≤◌, [], length, Some, IfOk, IfErr};
+ghost use Rattle.run_words.specs.Words.{demo_of};
+ghost use Rattle.run_words.specs.ReadingSeen.{demo_seen};
+ghost use Rattle.run_words.specs.Said.{IsSaid};
+ghost use Rattle.gen_data.specs.Rows.{MAX_NUMBER};
+ghost use Rattle.gen_data.specs.Files as spec;
+ghost use Rattle.gen_data.specs.Summary.{demo_rows};
+ghost use Rattle.run_top.specs.Demo.{IsDemoAnswer, IsDemoReport, demo_text_of};
+
+use crate::accepted::accepted_plan;
+use crate::summary::say_summary;
+use gen_data::demo_folder;
+use plan_leaves::zip;
+use run_accepted::{Ran, rows_of_plan};
+use run_words::{DemoReading, Report, Status, read_demo, say_line};
+use std::alloc::Global;
+use std::marker::Sync;
+use std::sync::Wait;
+use std::thread::Threads;
+use sub_types::{NoMemory, Word};
+use world::{Gate, Notes};
+
+/// Runs the demo's plan over tables of its own, in memory: `demo NUMBER WORKERS`, with so many orders. It says the summary of its
+/// rows to the notes, a line for each region.
+pub fn demo_main<N: Notes, G: Gate, H: Threads + Wait + Sync>(
+    _rt: &H,
+    alloc: Global,
+    words: &[Word],
+    notes: &mut N,
+    _gate: &G,
+) -> Status
+    // Words without a reading are faulty; else the demo is done, with a report of its run, unless there is no memory.
+    ensures answer { IsDemoAnswer (demo_of words.now) result }
+
+    // The rows that the demo's plan denotes over the demo's tables are said.
+    ensures notes { IsSaid (N.text notes.old) (N.text notes.new) (N.failures notes.old) (N.failures notes.new) (demo_text_of (demo_of words.now) result) }
+{
+    let Some(reading) = read_demo(words) else {
+        say_line(alloc, notes, &Status::Usage);
+        return Status::Usage;
+    };
+    match run_demo(alloc, reading) {
+        Ok(ran) => {
+            say_summary(alloc, notes, &ran.rows);
+            Status::Ok(report_of(ran))
+        }
+        Err(refusal) => {
+            say_line(alloc, notes, &refusal);
+            refusal
+        }
+    }
+}
+
+// The report of rows with their receipts.
+fn report_of(ran: Ran) -> Report
+    ensures rows { result.rows ≡ length ran.rows.items }
+    ensures receipts { result.receipts ≡ ran.receipts }
+{
+    Report {
+        rows: ran.rows.len() as u64,
+        receipts: ran.receipts,
+    }
+}
+
+// The rows of the demo and the receipts of its run. A refusal can only be that there is no memory.
+#[tactic(auto, using(crate::proofs::DemoLaws::demo_refused, crate::proofs::DemoLaws::demo_ran))]
+fn run_demo(alloc: Global, reading: DemoReading) -> Result<Ran, Status>
+    requires few { reading.number ≤ MAX_NUMBER }
+    requires workers { 1 ≤ reading.workers }
+    requires few_workers { reading.workers ≤ 64 }
+    ensures rows { IfOk result (λ ran. ran.rows.items ≡ demo_rows reading.number) }
+    ensures report { IfOk result (λ ran. IsDemoReport (demo_seen reading) (record { rows = length ran.rows.items; receipts = ran.receipts })) }
+    ensures memory { IfErr result (λ refusal. refusal ≡ Status.NoMemory) }
+{
+    let (mut folder, bindings) = match zip(demo_folder(alloc, reading.number), demo_bindings(alloc)) {
+        Ok(both) => both,
+        Err(NoMemory) => return Err(Status::NoMemory),
+    };
+    let plan = accepted_plan(alloc, &mut folder, "plan")?;
+    rows_of_plan(alloc, &mut folder, &bindings, reading.workers, &plan)
+}
+
+// The words that bind the names of the tables to their files.
+fn demo_bindings(alloc: Global) -> Result<Vec<Word>, NoMemory>
+    ensures { IfOk result (λ words. words.items ≡ spec.demo_bindings) }
+{
+    let mut words = Vec::new(alloc);
+    words.push(Word::of(alloc, "orders=orders")?)?;
+    words.push(Word::of(alloc, "lines=lines")?)?;
+    Ok(words)
+}
