@@ -1,0 +1,3 @@
+mod CountedLaws
+mod AcceptedLaws
+mod ReadsLaws
