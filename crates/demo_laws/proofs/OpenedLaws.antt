@@ -1,5 +1,5 @@
 -- The messages of the demo's plan, opened by one level.
-use Rattle.std.proofs.Common.{◌≡◌, ◌∙◌, ℕ, pos, List, [], ◌∷◌, true, false, Option, Some, None, sym, ap}
+use Rattle.std.proofs.Common.{◌≡◌, ◌∙◌, ℕ, pos, List, [], ◌∷◌, true, false, Some, None, sym, ap}
 use Rattle.plan_leaves.specs.declared.reference.ReferenceSegment.{ReferenceSegment}
 use Rattle.plan_leaves.specs.declared.schema.NamedStruct.{NamedStruct}
 use Rattle.plan_leaves.specs.declared.schema.NamedTable.{NamedTable}
@@ -7,7 +7,7 @@ use Rattle.plan_leaves.specs.declared.types.RawType.{RawType, RawType-F, out-Raw
 use Rattle.plan_leaves.specs.declared.types.RawType.TheVariants as t
 use Rattle.plan_raw.specs.declared.aggregate.AggregateFunction.{AggregateFunction, AggregateFunction-F, roll-AggregateFunction, out-AggregateFunction, out-roll-AggregateFunction}
 use Rattle.plan_raw.specs.declared.aggregate.Grouping.{Grouping, Grouping-F, roll-Grouping, out-Grouping, out-roll-Grouping}
-use Rattle.plan_raw.specs.declared.aggregate.Measure.{Measure-F, roll-Measure, out-Measure, out-roll-Measure}
+use Rattle.plan_raw.specs.declared.aggregate.Measure.{Measure-F, out-Measure, out-roll-Measure}
 use Rattle.plan_raw.specs.declared.aggregate.SortField.{SortField, SortField-F, roll-SortField, out-SortField, out-roll-SortField}
 use Rattle.plan_raw.specs.declared.argument.FunctionArgument.{FunctionArgument, FunctionArgument-F, out-FunctionArgument, out-roll-FunctionArgument}
 use Rattle.plan_raw.specs.declared.argument.FunctionArgument.TheVariants as a

@@ -9,7 +9,6 @@ use Rattle.plan_typed.specs.declared.rel.Op.TheVariants as ops
 use Rattle.plan_typed.specs.declared.rel.Rel.{Rel, Rel-F, roll-Rel, out-roll-Rel}
 use Rattle.plan_typed.specs.declared.rel.SortKey.{SortKey}
 use Rattle.plan_typed.specs.declared.rel.Source.TheVariants as sources
-use Rattle.plan_reads.specs.declared.reads.PlanRead.{PlanRead}
 use Rattle.plan_reads.specs.Reads.{read_of, reads_in, reads_of, by_relation}
 use Rattle.plan_reads.proofs.ReadLaws.{reads_of_op, of_op, of_Read, of_Join, of_Aggregate, of_Sort}
 use Rattle.plan_denote.specs.Sort.{arranged}

@@ -1,5 +1,5 @@
 -- The bytes of the demo's plan, from the leaves, and that they are few.
-use Rattle.std.proofs.Common.{◌≡◌, ◌∙◌, ◌≤◌, ℕ, suc, pos, List, [], ◌∷◌, ◌++◌, true, false, Option, Some, None, length, ap, sym, subst, arith}
+use Rattle.std.proofs.Common.{◌≡◌, ◌∙◌, ◌≤◌, ℕ, suc, pos, List, [], ◌∷◌, false, Some, None, length, ap, sym, subst, arith}
 use Rattle.std.specs.Prelude.{codes}
 use Rattle.pb_wire.specs.Payloads.{Field}
 use Rattle.pb_wire.specs.Records.{Varint, Bytes}
@@ -7,7 +7,6 @@ use Rattle.pb_write.specs.Write.{varint_bytes, record_bytes, message_bytes}
 use Rattle.plan_scan.specs.declared.shape.Shape.TheVariants as s
 use Rattle.plan_leaves.specs.declared.types.RawType.{RawType}
 use Rattle.plan_leaves.specs.declared.types.RawType.TheVariants as t
-use Rattle.plan_raw.specs.declared.aggregate.AggregateFunction.{AggregateFunction-F}
 use Rattle.plan_raw.specs.declared.aggregate.Grouping.{Grouping-F}
 use Rattle.plan_raw.specs.declared.aggregate.Measure.{Measure-F}
 use Rattle.plan_raw.specs.declared.aggregate.SortField.{SortField-F}
@@ -18,18 +17,18 @@ use Rattle.plan_spell.specs.Leaves as leaves
 use Rattle.plan_spell.specs.Rels as rels
 use Rattle.plan_spell.specs.Spelled.{spelled_at, spelled}
 use Rattle.gen_data.specs.Plan as raw
-use Rattle.demo_laws.proofs.OpenedLaws.{out_whole, out_text, out_truth, segment, out_column, argument, out_argument, out_is_of_order, schema, named, out_source, out_table, out_join, grouping, by_region, out_grouping, function_of, function_level, out_function, measure_level, out_measure, out_regions, key, key_level, out_key, out_sorted}
+use Rattle.demo_laws.proofs.OpenedLaws.{out_whole, out_text, out_truth, out_column, argument, out_argument, out_is_of_order, schema, out_source, out_table, out_join, grouping, out_grouping, function_of, out_function, out_measure, out_regions, key, out_key, out_sorted}
 
 -- a record of a block, and one of a number
 abbrev block : ℕ → List ℕ → Field
 block number bytes = record { number = number; content = Bytes bytes }
 
-abbrev value : ℕ → ℕ → Field
-value number value = record { number = number; content = Varint value }
+abbrev count : ℕ → ℕ → Field
+count number value = record { number = number; content = Varint value }
 
 -- a type that has nothing but its nullability
 abbrev type_bytes : ℕ → ℕ → List ℕ
-type_bytes member nullability = message_bytes (block member (message_bytes (value 2 nullability ∷ [])) ∷ [])
+type_bytes member nullability = message_bytes (block member (message_bytes (count 2 nullability ∷ [])) ∷ [])
 
 whole_spelled : (n nullability : ℕ) → spelled_at (suc (suc n)) s.DataType (t.I64 (suc nullability)) ≡ type_bytes 7 (suc nullability)
 unfolding spelled_at
@@ -67,14 +66,14 @@ argument_spelled n place =
 
 -- the condition of the join
 abbrev condition_bytes : List ℕ
-condition_bytes = message_bytes (block 3 (message_bytes (value 1 1 ∷ block 3 (type_bytes 1 1) ∷ block 4 (argument_bytes 0) ∷ block 4 (argument_bytes 2) ∷ [])) ∷ [])
+condition_bytes = message_bytes (block 3 (message_bytes (count 1 1 ∷ block 3 (type_bytes 1 1) ∷ block 4 (argument_bytes 0) ∷ block 4 (argument_bytes 2) ∷ [])) ∷ [])
 
 condition_spelled : spelled_at 91 s.Expression raw.is_of_order ≡ condition_bytes
 unfolding spelled_at
 condition_spelled =
     (λ i. message_bytes (fields_by (spelled_at 90) (exprs.expression_parts raw.is_of_order (out_is_of_order i))))
     ∙ (λ i. message_bytes (block 3 (message_bytes (fields_by (spelled_at 89) (exprs.scalar_function_parts (out_is_of_order i)))) ∷ []))
-    ∙ (λ i. message_bytes (block 3 (message_bytes (value 1 1 ∷ block 3 (truth_spelled 87 i) ∷ block 4 (argument_spelled 84 0 i) ∷ block 4 (argument_spelled 84 2 i) ∷ [])) ∷ []))
+    ∙ (λ i. message_bytes (block 3 (message_bytes (count 1 1 ∷ block 3 (truth_spelled 87 i) ∷ block 4 (argument_spelled 84 0 i) ∷ block 4 (argument_spelled 84 2 i) ∷ [])) ∷ []))
 
 -- a table of two columns of these names, by the bytes of their types
 abbrev table_bytes : List ℕ → List ℕ → List ℕ → List ℕ → List ℕ → List ℕ
@@ -111,7 +110,7 @@ orders_spelled =
 
 -- the lines joined to their orders
 abbrev join_bytes : List ℕ → List ℕ → List ℕ → List ℕ
-join_bytes lines orders condition = message_bytes (block 6 (message_bytes (block 2 lines ∷ block 3 orders ∷ block 4 condition ∷ value 6 1 ∷ [])) ∷ [])
+join_bytes lines orders condition = message_bytes (block 6 (message_bytes (block 2 lines ∷ block 3 orders ∷ block 4 condition ∷ count 6 1 ∷ [])) ∷ [])
 
 join_spelled : spelled_at 93 s.Rel raw.ordered_lines ≡ join_bytes lines_bytes orders_bytes condition_bytes
 unfolding spelled_at
@@ -131,7 +130,7 @@ grouping_spelled =
     ∙ ap (λ bytes. message_bytes (block 1 bytes ∷ [])) (column_spelled 88 3)
 
 abbrev function_bytes : ℕ → List ℕ → List ℕ → List ℕ
-function_bytes function ty argument = message_bytes (value 1 function ∷ value 4 3 ∷ block 5 ty ∷ value 6 1 ∷ block 7 argument ∷ [])
+function_bytes function ty argument = message_bytes (count 1 function ∷ count 4 3 ∷ block 5 ty ∷ count 6 1 ∷ block 7 argument ∷ [])
 
 function_spelled : (function nullability : ℕ) → spelled_at 92 s.AggregateFunction (function_of (suc function) (t.I64 (suc nullability))) ≡ function_bytes (suc function) (type_bytes 7 (suc nullability)) (argument_bytes 1)
 unfolding spelled_at
@@ -149,7 +148,7 @@ measure_spelled function nullability =
     ∙ ap (λ bytes. message_bytes (block 1 bytes ∷ [])) (function_spelled function nullability)
 
 abbrev regions_bytes : List ℕ → List ℕ → List ℕ → List ℕ → List ℕ
-regions_bytes join grouping sum count = message_bytes (block 4 (message_bytes (block 2 join ∷ block 3 grouping ∷ block 4 sum ∷ block 4 count ∷ [])) ∷ [])
+regions_bytes join grouping sums counts = message_bytes (block 4 (message_bytes (block 2 join ∷ block 3 grouping ∷ block 4 sums ∷ block 4 counts ∷ [])) ∷ [])
 
 regions_spelled : spelled_at 95 s.Rel raw.regions ≡ regions_bytes (join_bytes lines_bytes orders_bytes condition_bytes) grouping_bytes (measure_bytes 2 1) (measure_bytes 3 2)
 unfolding spelled_at
@@ -160,13 +159,13 @@ regions_spelled =
 
 -- the regions from the least on
 abbrev key_bytes : List ℕ
-key_bytes = message_bytes (block 1 (column_bytes 0) ∷ value 2 1 ∷ [])
+key_bytes = message_bytes (block 1 (column_bytes 0) ∷ count 2 1 ∷ [])
 
 key_spelled : spelled_at 95 s.SortField key ≡ key_bytes
 unfolding spelled_at
 key_spelled =
     ap (λ (level : Opened SortField-F). message_bytes (fields_by (spelled_at 94) (message 1 s.Expression level.expr ∷ uint32 2 level.direction ∷ []))) out_key
-    ∙ ap (λ bytes. message_bytes (block 1 bytes ∷ value 2 1 ∷ [])) (column_spelled 90 0)
+    ∙ ap (λ bytes. message_bytes (block 1 bytes ∷ count 2 1 ∷ [])) (column_spelled 90 0)
 
 abbrev sort_bytes : List ℕ → List ℕ → List ℕ
 sort_bytes regions key = message_bytes (block 5 (message_bytes (block 2 regions ∷ block 3 key ∷ [])) ∷ [])
@@ -183,10 +182,10 @@ sorted_spelled =
 
 -- the plan: a file of functions, a function, and what has the plan's only root
 abbrev uri_bytes : ℕ → List ℕ → List ℕ
-uri_bytes anchor file = message_bytes (value 1 anchor ∷ block 2 (raw.uri_of file) ∷ [])
+uri_bytes anchor file = message_bytes (count 1 anchor ∷ block 2 (raw.uri_of file) ∷ [])
 
 abbrev declaration_bytes : ℕ → List ℕ → List ℕ
-declaration_bytes anchor name = message_bytes (block 3 (message_bytes (value 1 anchor ∷ value 2 anchor ∷ block 3 name ∷ [])) ∷ [])
+declaration_bytes anchor name = message_bytes (block 3 (message_bytes (count 1 anchor ∷ count 2 anchor ∷ block 3 name ∷ [])) ∷ [])
 
 abbrev plan_bytes : List ℕ → List ℕ
 plan_bytes root =
