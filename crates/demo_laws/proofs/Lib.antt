@@ -1,0 +1,5 @@
+mod CountedLaws
+mod AcceptedLaws
+mod ReadsLaws
+mod OpenedLaws
+mod SpelledLaws

@@ -1,0 +1,6 @@
+//! Laws of the demo.
+#![tactic(auto)]
+
+mod plan;
+
+pub use plan::{demo_plan_is_accepted, demo_plan_reads};

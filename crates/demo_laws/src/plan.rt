@@ -1,0 +1,17 @@
+// The demo's plan: it is accepted, as what `demo_plan` says, and reads the two tables.
+ghost use Rattle.std.specs.Prelude.{◌≡◌, [], ◌∷◌, true, Ok};
+ghost use Rattle.plan_reads.specs.Reads.{reads_of};
+ghost use Rattle.plan_verdict.specs.Verdict.{verdict};
+ghost use Rattle.gen_data.specs.Plan.{demo_tree};
+ghost use Rattle.gen_data.specs.Checked.{demo_plan};
+ghost use Rattle.gen_data.specs.Reads.{lines_read, orders_read};
+
+/// The demo's plan is accepted: no rule is broken, and it is checked as the tree of `demo_plan`.
+pub fn demo_plan_is_accepted()
+    ensures { verdict true demo_tree ≡ Ok demo_plan }
+{}
+
+/// The read relations of the demo's plan: the lines, and then the orders.
+pub fn demo_plan_reads()
+    ensures { reads_of demo_plan ≡ lines_read ∷ orders_read ∷ [] }
+{}
