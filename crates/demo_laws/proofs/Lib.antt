@@ -1,0 +1,6 @@
+mod CleanLaws
+mod DemoLevels
+mod FewLaws
+mod ShapeLaws
+mod SumLaws
+mod DemoRowLaws

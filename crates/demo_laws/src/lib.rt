@@ -1,0 +1,4 @@
+//! Laws of the demo: what its plan denotes over its tables.
+#![tactic(auto)]
+
+pub mod rows;
