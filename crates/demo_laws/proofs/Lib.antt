@@ -1,5 +1,16 @@
 mod CountedLaws
-mod AcceptedLaws
-mod ReadsLaws
+pub mod AcceptedLaws
+pub mod ReadsLaws
 mod OpenedLaws
-mod SpelledLaws
+pub mod SpelledLaws
+pub mod FittingLaws
+mod CleanLaws
+pub mod DemoLevels
+mod FewLaws
+mod ShapeLaws
+mod SumLaws
+pub mod DemoRowLaws
+mod FileFound
+mod FileSizes
+mod FileRows
+pub mod FilesOpened

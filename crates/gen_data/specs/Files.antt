@@ -17,3 +17,7 @@ lines_file number = file_of line_names line_types (line_rows number)
 -- the plan as `plan`, and so many orders with their lines as `orders` and `lines`
 unfoldable pub demo_files : ℕ → Files
 demo_files number = insert (insert (insert empty (codes "plan") (spelled demo_tree)) (codes "orders") (orders_file number)) (codes "lines") (lines_file number)
+
+-- the words that bind the names of the demo's tables to its files
+abbrev pub demo_bindings : List (List ℕ)
+demo_bindings = codes "orders=orders" ∷ codes "lines=lines" ∷ []
