@@ -46,6 +46,13 @@ orders_there number =
     get-insert nat_list_cmp_total (insert (insert empty (codes "plan") (spelled demo_tree)) (codes "orders") (orders_file number)) (codes "lines") (lines_file number) (codes "orders")
     ∙ get-insert nat_list_cmp_total (insert empty (codes "plan") (spelled demo_tree)) (codes "orders") (orders_file number) (codes "orders")
 
+pub plan_there : (number : ℕ) → get (demo_files number) (codes "plan") ≡ Some (spelled demo_tree)
+unfolding demo_files
+plan_there number =
+    get-insert nat_list_cmp_total (insert (insert empty (codes "plan") (spelled demo_tree)) (codes "orders") (orders_file number)) (codes "lines") (lines_file number) (codes "plan")
+    ∙ get-insert nat_list_cmp_total (insert empty (codes "plan") (spelled demo_tree)) (codes "orders") (orders_file number) (codes "plan")
+    ∙ get-insert nat_list_cmp_total empty (codes "plan") (spelled demo_tree) (codes "plan")
+
 -- each table has one binding
 lines_bound : bindings_of (codes "lines") demo_bindings ≡ (2, codes "lines") ∷ []
 unfolding bindings_of bound_file
@@ -87,7 +94,7 @@ module _ (number : ℕ) (bytes : List ℕ) (a b : List ℕ) (s t : Ty) (rows : L
       ap glue (append-nil (file_streams relation number bytes (length h.file.head.blocks) (0 ∷ 1 ∷ []))) ∙ all_rows bytes relation number a b s t rows h
 
 -- Both read relations are opened, and have their tables.
-abbrev Opens : ℕ → Type 0
+abbrev pub Opens : ℕ → Type 0
 Opens number =
     (opened : List Opened) × (open_reads (demo_files number) demo_bindings (lines_read ∷ orders_read ∷ []) ≡ Ok opened) × ((relation : ℕ) → tables_of opened relation ≡ demo_tables number relation)
 

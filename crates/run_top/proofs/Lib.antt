@@ -1,2 +1,4 @@
 pub mod AnswerLaws
 pub mod CutLaws
+pub mod DemoLaws
+mod SummaryLaws

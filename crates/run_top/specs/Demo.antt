@@ -24,6 +24,13 @@ IsDemoAnswer None answered = answered ≡ status.Usage
 IsDemoAnswer (Some reading) (status.Ok report) = IsDemoReport reading report
 IsDemoAnswer (Some reading) refusal = refusal ≡ status.NoMemory
 
+-- the answers of the demo that can come, whatever the words are
+abbrev pub IsDemoNamed : Status → Type 0
+IsDemoNamed (status.Ok report) = Unit {0}
+IsDemoNamed status.Usage = Unit {0}
+IsDemoNamed status.NoMemory = Unit {0}
+IsDemoNamed _ = ⊥
+
 -- the summary of a demo that is done, and the line of any other answer
 unfoldable pub demo_text_of : Option DemoReading → Status → List ℕ
 demo_text_of (Some reading) (status.Ok report) = summary_of reading.number

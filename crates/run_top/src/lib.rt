@@ -7,12 +7,15 @@
 mod accepted;
 mod check;
 mod command;
+mod demo;
 mod laws;
 mod plan;
 mod run;
+mod summary;
 
 pub use check::check_main;
 pub use command::command_main;
+pub use demo::demo_main;
 pub use laws::same_rows_same_file;
 pub use run::run_main;
 pub use run_words::{FileRule, PipeReceipt, Report, Rule, Status, exit_number};
