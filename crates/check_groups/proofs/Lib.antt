@@ -1,3 +1,4 @@
 pub mod CountLaws
 pub mod GroupLaws
 pub mod MeasureLaws
+pub mod CapLaws

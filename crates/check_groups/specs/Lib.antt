@@ -1,4 +1,4 @@
+pub mod Capped
 pub mod Counts
 pub mod Measures
 pub mod Over
-pub mod Several

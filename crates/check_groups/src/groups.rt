@@ -1,6 +1,7 @@
 // The groupings of aggregates (Substrait `AggregateRel.Grouping`).
-ghost use Rattle.std.specs.Prelude.{◌∷◌, [], map};
-ghost use Rattle.check_groups.specs.Several.{several_written_out as several_written_out_as};
+ghost use Rattle.std.specs.Prelude.{◌≡◌, ◌∷◌, [], IfOk, map};
+ghost use Rattle.std.specs.Option.{option_map};
+ghost use Rattle.check_groups.specs.Capped as capped;
 ghost use Rattle.plan_verdict.specs.Aggregates as spec;
 ghost use Rattle.plan_verdict.specs.Checking.{Comes};
 ghost use Rattle.plan_verdict.specs.Rels.{over};
@@ -13,9 +14,14 @@ use plan_leaves::Items;
 use plan_raw::{Grouping, RawExpr};
 use plan_rules::sets_of_places;
 use plan_verdict::{CheckError, Group, Groups, Progress};
-use sub_types::Ty;
+use std::mem::drop;
+use sub_types::{NoMemory, Ty};
 
-/// The groups and sets: the groupings refer to the aggregate's own expressions, if it has some.
+/// The most columns of a relation, so that more groups are too many.
+const MAX_COLUMNS: usize = 1024;
+
+/// The groups and sets, unless there are too many groups: the groupings refer to the aggregate's own expressions, if it
+/// has some.
 pub(crate) fn groups_in<D: Deeper>(
     deeper: &D,
     terms: &Terms<'_>,
@@ -24,14 +30,14 @@ pub(crate) fn groups_in<D: Deeper>(
     columns: &[Ty],
     expressions: &[RawExpr],
     groupings: &[Grouping],
-) -> Result<(Groups, Progress), CheckError>
+) -> Result<(Option<Groups>, Progress), CheckError>
     requires { D.is_ready deeper.now }
-    ensures { Comes result (spec.groups_in (over number columns.now) (map (checked_expr terms.now) expressions.now) (map (checked_grouping terms.now) groupings.now) progress) }
+    ensures { Comes result (capped.capped_groups_in (over number columns.now) (map (checked_expr terms.now) expressions.now) (map (checked_grouping terms.now) groupings.now) progress) }
 {
     if expressions.is_empty() {
         written_out(deeper, terms, progress, number, columns, groupings)
     } else {
-        referred(
+        let (found, progress) = referred(
             deeper,
             terms,
             progress,
@@ -39,7 +45,8 @@ pub(crate) fn groups_in<D: Deeper>(
             columns,
             expressions,
             groupings,
-        )
+        )?;
+        Ok((Some(found), progress))
     }
 }
 
@@ -70,12 +77,12 @@ fn written_out<D: Deeper>(
     number: u32,
     columns: &[Ty],
     groupings: &[Grouping],
-) -> Result<(Groups, Progress), CheckError>
+) -> Result<(Option<Groups>, Progress), CheckError>
     requires { D.is_ready deeper.now }
-    ensures { Comes result (spec.written_out (over number columns.now) (map (checked_grouping terms.now) groupings.now) progress) }
+    ensures { Comes result (capped.capped_written_out (over number columns.now) (map (checked_grouping terms.now) groupings.now) progress) }
 {
     match groupings {
-        [] => Ok((no_groups(terms.alloc())?, progress)),
+        [] => Ok((Some(no_groups(terms.alloc())?), progress)),
         [one] => one_written_out(deeper, terms, progress, number, columns, one),
         _ => several_written_out(deeper, terms, progress, number, columns, groupings),
     }
@@ -89,16 +96,16 @@ fn one_written_out<D: Deeper>(
     number: u32,
     columns: &[Ty],
     one: &Grouping,
-) -> Result<(Groups, Progress), CheckError>
+) -> Result<(Option<Groups>, Progress), CheckError>
     requires { D.is_ready deeper.now }
-    ensures { Comes result (spec.written_out (over number columns.now) (checked_grouping terms.now one.now ∷ []) progress) }
+    ensures { Comes result (capped.capped_written_out (over number columns.now) (checked_grouping terms.now one.now ∷ []) progress) }
 {
     let expressions = one.grouping_expressions.as_slice();
     let (groups, progress) = each_in(deeper, terms, progress, number, columns, expressions)?;
-    Ok((one_set(terms.alloc(), groups)?, progress))
+    Ok((Some(one_set(terms.alloc(), groups)?), progress))
 }
 
-/// Several groupings, with equal expressions once.
+/// Several groupings, with equal expressions once, unless there are too many groups.
 fn several_written_out<D: Deeper>(
     deeper: &D,
     terms: &Terms<'_>,
@@ -106,16 +113,29 @@ fn several_written_out<D: Deeper>(
     number: u32,
     columns: &[Ty],
     groupings: &[Grouping],
-) -> Result<(Groups, Progress), CheckError>
+) -> Result<(Option<Groups>, Progress), CheckError>
     requires { D.is_ready deeper.now }
-    ensures { Comes result (several_written_out_as (over number columns.now) (map (checked_grouping terms.now) groupings.now) progress) }
+    ensures { Comes result (capped.capped_several (over number columns.now) (map (checked_grouping terms.now) groupings.now) progress) }
 {
-    let groups = GroupIndex::new(terms.alloc());
+    let none = Some(GroupIndex::new(terms.alloc()));
     let ((groups, sets), progress) = sets_in(
-        deeper, terms, progress, number, columns, groups, groupings,
+        deeper, terms, progress, number, columns, none, groupings,
     )?;
+    Ok((groups_with(groups, sets)?, progress))
+}
+
+/// The expressions of the groups, with these sets.
+fn groups_with(
+    groups: Option<GroupIndex>,
+    sets: Items<Items<u32>>,
+) -> Result<Option<Groups>, NoMemory>
+    ensures { IfOk result (λ found. found ≡ option_map (capped.groups_with sets) groups) }
+{
+    let Some(groups) = groups else {
+        return Ok(None);
+    };
     let groups = groups.into_exprs()?;
-    Ok((Groups { groups, sets }, progress))
+    Ok(Some(Groups { groups, sets }))
 }
 
 /// The places of each grouping's expressions among the groups, equal ones once.
@@ -125,11 +145,11 @@ fn sets_in<D: Deeper>(
     progress: Progress,
     number: u32,
     columns: &[Ty],
-    groups: GroupIndex,
+    groups: Option<GroupIndex>,
     groupings: &[Grouping],
-) -> Result<((GroupIndex, Items<Items<u32>>), Progress), CheckError>
+) -> Result<((Option<GroupIndex>, Items<Items<u32>>), Progress), CheckError>
     requires { D.is_ready deeper.now }
-    ensures { Comes result (spec.sets_in (over number columns.now) groups (map (checked_grouping terms.now) groupings.now) progress) }
+    ensures { Comes result (capped.capped_sets_in (over number columns.now) groups (map (checked_grouping terms.now) groupings.now) progress) }
 {
     let mut progress = progress;
     let mut groups = groups;
@@ -159,17 +179,17 @@ fn set_in<D: Deeper>(
     progress: Progress,
     number: u32,
     columns: &[Ty],
-    groups: GroupIndex,
+    groups: Option<GroupIndex>,
     expressions: &[RawExpr],
-) -> Result<((GroupIndex, Items<u32>), Progress), CheckError>
+) -> Result<((Option<GroupIndex>, Items<u32>), Progress), CheckError>
     requires { D.is_ready deeper.now }
-    ensures { Comes result (spec.set_in (over number columns.now) groups (map (checked_expr terms.now) expressions.now) progress) }
+    ensures { Comes result (capped.capped_set_in (over number columns.now) groups (map (checked_expr terms.now) expressions.now) progress) }
 {
     let mut progress = progress;
     let mut groups = groups;
     let mut places = Items::new(terms.alloc());
     for written in expressions {
-        let ((more, one), after) = group_in(
+        let ((more, one), after) = capped_group_in(
             deeper, terms, progress, number, columns, groups, written,
         )?;
         progress = after;
@@ -177,6 +197,42 @@ fn set_in<D: Deeper>(
         places.push(one)?;
     }
     Ok(((groups, places), progress))
+}
+
+/// The groups with a grouping expression, and its place. Behind too many groups it is checked and let go.
+fn capped_group_in<D: Deeper>(
+    deeper: &D,
+    terms: &Terms<'_>,
+    progress: Progress,
+    number: u32,
+    columns: &[Ty],
+    groups: Option<GroupIndex>,
+    written: &RawExpr,
+) -> Result<((Option<GroupIndex>, u32), Progress), CheckError>
+    requires { D.is_ready deeper.now }
+    ensures { Comes result (capped.capped_group_in (over number columns.now) groups (checked_expr terms.now written.now) progress) }
+{
+    let Some(groups) = groups else {
+        let (expr, progress) = deeper.expression(terms, progress, number, columns, written)?;
+        drop(expr);
+        return Ok(((None, 0), progress));
+    };
+    let ((more, place), progress) = group_in(
+        deeper, terms, progress, number, columns, groups, written,
+    )?;
+    Ok(((few_groups(more), place), progress))
+}
+
+/// The groups, unless there are too many.
+fn few_groups(groups: GroupIndex) -> Option<GroupIndex>
+    ensures { result ≡ capped.few_groups groups }
+{
+    if groups.len() <= MAX_COLUMNS {
+        Some(groups)
+    } else {
+        drop(groups);
+        None
+    }
 }
 
 /// The groups with a grouping expression, and its place: that of an equal one, or a new one.
