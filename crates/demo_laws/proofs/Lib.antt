@@ -3,3 +3,4 @@ mod AcceptedLaws
 mod ReadsLaws
 mod OpenedLaws
 mod SpelledLaws
+mod FittingLaws
