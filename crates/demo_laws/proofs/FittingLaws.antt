@@ -11,6 +11,7 @@ use Rattle.plan_scan.specs.declared.shape.Shape.{Shape}
 use Rattle.plan_scan.specs.declared.shape.Shape.TheVariants as s
 use Rattle.plan_leaves.specs.declared.extensions.FunDecl.{FunDecl}
 use Rattle.plan_leaves.specs.declared.extensions.UriDecl.{UriDecl}
+use Rattle.plan_leaves.specs.declared.reference.StructField.{StructField}
 use Rattle.plan_leaves.specs.declared.types.RawType.{RawType, RawType-F, out-RawType}
 use Rattle.plan_leaves.specs.declared.types.RawType.TheVariants as t
 use Rattle.plan_raw.specs.declared.aggregate.AggregateFunction.{AggregateFunction-F, out-AggregateFunction}
@@ -25,14 +26,15 @@ use Rattle.plan_raw.specs.declared.source.RawSource.{RawSource-F, out-RawSource}
 use Rattle.plan_raw.specs.declared.source.RawSource.TheVariants as source
 use Rattle.plan_tree.specs.Fold.{Opened}
 use Rattle.plan_spell.specs.Exprs as exprs
-use Rattle.plan_spell.specs.Held.{Part, PackedUint32s, uint32, messages, message, unless_zero}
+use Rattle.plan_spell.specs.Held.{Part, PackedUint32s, uint32, messages, message, unless_zero, unless_empty}
 use Rattle.plan_spell.specs.Known.{IsKnown, IsKnownRel, IsRead, IsAggregate, IsSort, IsJoin, IsKnownExpr, IsSelection, IsScalarFunction, IsKnownType}
 use Rattle.plan_spell.specs.Leaves as leaves
 use Rattle.plan_spell.specs.Nodes.{Node}
 use Rattle.plan_spell.specs.Parts.{parts_of}
 use Rattle.plan_spell.specs.Rels as rels
-use Rattle.plan_spell.specs.Spelled.{HasFitting, IsSpellableAt}
+use Rattle.plan_spell.specs.Spelled.{HasFitting, IsSpellableAt, IsSpellable}
 use Rattle.gen_data.specs.Plan as raw
+use Rattle.demo_laws.proofs.SpelledLaws.{plan_is_short}
 use Rattle.demo_laws.proofs.OpenedLaws.{out_whole, out_text, out_truth, segment, out_column, argument, both, out_argument, out_is_of_order, schema, named, out_source, out_table, out_join, grouping, by_region, out_grouping, function_of, function_level, out_function, measure_level, out_measure, out_regions, key, key_level, out_key, out_sorted}
 
 -- a message whose fields fit
@@ -140,18 +142,18 @@ truth n =
 -- a column, and as an argument
 segment_fits : (n place : ℕ) → place < 2 ^ 31 → IsSpellableAt (suc (suc n)) s.ReferenceSegment (segment place)
 segment_fits n place h =
-    let field = record { field = pos place; child = false } in
+    let field : StructField = record { field = pos place; child = false } in
     made (suc n) s.ReferenceSegment (segment place) tt (only (suc n) s.StructField field (made n s.StructField field tt (place_fits place h, (none n s.Empty, tt))), tt)
 
-reference : (n place : ℕ) → place < 2 ^ 31 → IsSpellableAt (suc (suc (suc n))) s.FieldReference (raw.column place)
-reference n place h =
+field_reference : (n place : ℕ) → place < 2 ^ 31 → IsSpellableAt (suc (suc (suc n))) s.FieldReference (raw.column place)
+field_reference n place h =
     opened (suc (suc n)) s.FieldReference (raw.column place) IsSelection exprs.reference_parts (out-RawExpr (raw.column place)) (RawExpr-F.Selection (Some (segment place)) true false) (out_column place) (made (suc (suc n)) s.FieldReference (raw.column place)) tt
     (only (suc (suc n)) s.ReferenceSegment (segment place) (segment_fits n place h), (tt, (only (suc (suc n)) s.Empty tt (made (suc n) s.Empty tt tt tt), tt)))
 
 column : (n place : ℕ) → place < 2 ^ 31 → IsSpellableAt (suc (suc (suc (suc n)))) s.Expression (raw.column place)
 column n place h =
     opened (suc (suc (suc n))) s.Expression (raw.column place) IsKnownExpr (exprs.expression_parts (raw.column place)) (out-RawExpr (raw.column place)) (RawExpr-F.Selection (Some (segment place)) true false) (out_column place)
-    (made (suc (suc (suc n))) s.Expression (raw.column place)) tt (only (suc (suc (suc n))) s.FieldReference (raw.column place) (reference n place h), tt)
+    (made (suc (suc (suc n))) s.Expression (raw.column place)) tt (only (suc (suc (suc n))) s.FieldReference (raw.column place) (field_reference n place h), tt)
 
 argument_fits : (n place : ℕ) → place < 2 ^ 31 → IsSpellableAt (suc (suc (suc (suc (suc n))))) s.FunctionArgument (argument place)
 argument_fits n place h =
@@ -161,13 +163,9 @@ argument_fits n place h =
 -- the condition of the join
 call : IsSpellableAt 90 s.ScalarFunction raw.is_of_order
 call =
-    opened 89 s.ScalarFunction raw.is_of_order IsScalarFunction exprs.scalar_function_parts (out-RawExpr raw.is_of_order) (RawExpr-F.ScalarFunction 1 (Some (t.Bool 1)) both []) out_is_of_order (made 89 s.ScalarFunction raw.is_of_order) tt (
-      small 1 (omega arith),
-      (
-        only 89 s.DataType (t.Bool 1) (truth 87),
-        (two 89 s.FunctionArgument (argument 0) (argument 2) (argument_fits 84 0 (omega arith)) (argument_fits 84 2 (omega arith)), (none 89 s.FunctionOption, tt)),
-      ),
-    )
+    opened 89 s.ScalarFunction raw.is_of_order IsScalarFunction exprs.scalar_function_parts (out-RawExpr raw.is_of_order) (RawExpr-F.ScalarFunction 1 (Some (t.Bool 1)) both []) out_is_of_order (made 89 s.ScalarFunction raw.is_of_order) tt
+    (small 1 (omega arith), (only 89 s.DataType (t.Bool 1) (truth 87),
+    (two 89 s.FunctionArgument (argument 0) (argument 2) (argument_fits 84 0 (omega arith)) (argument_fits 84 2 (omega arith)), (none 89 s.FunctionOption, tt))))
 
 condition : IsSpellableAt 91 s.Expression raw.is_of_order
 condition =
@@ -184,22 +182,12 @@ table name names types is are fit =
     let rel = raw.table name names types in
     let level : Opened RawRel-F = RawRel-F.Read None (Some (schema names types)) None None (source.NamedTable (named name)) None in
     let parts : Opened RawSource-F → List Part =
-    (λ one. message 1 s.RelCommon None ∷ message 2 s.NamedStruct (Some (schema names types)) ∷ message 3 s.Expression None ∷ message 4 s.MaskExpression None
-    ∷ messages 5 s.VirtualTable (rels.virtual_tables one) ∷ messages 6 s.LocalFiles (rels.local_files one) ∷ messages 7 s.NamedTable (rels.named_tables one) ∷ message 11 s.Expression None ∷ []) in
+        (λ one. message 1 s.RelCommon None ∷ message 2 s.NamedStruct (Some (schema names types)) ∷ message 3 s.Expression None ∷ message 4 s.MaskExpression None
+        ∷ messages 5 s.VirtualTable (rels.virtual_tables one) ∷ messages 6 s.LocalFiles (rels.local_files one) ∷ messages 7 s.NamedTable (rels.named_tables one) ∷ message 11 s.Expression None ∷ []) in
     let all : Fitting 89 s.ReadRel (rels.read_parts level) =
-    subst (λ one. Fitting 89 s.ReadRel (parts one)) (sym (out_source name)) (
-      none 89 s.RelCommon,
-      (
-        only 89 s.NamedStruct (schema names types) (schema_fits names types are fit),
-        (
-          none 89 s.Expression,
-          (
-            none 89 s.MaskExpression,
-            (none 89 s.VirtualTable, (none 89 s.LocalFiles, (only 89 s.NamedTable (named name) (made 88 s.NamedTable (named name) tt (is, tt)), (none 89 s.Expression, tt)))),
-          ),
-        ),
-      ),
-    ) in
+        subst (λ one. Fitting 89 s.ReadRel (parts one)) (sym (out_source name))
+        (none 89 s.RelCommon, (only 89 s.NamedStruct (schema names types) (schema_fits names types are fit), (none 89 s.Expression, (none 89 s.MaskExpression,
+        (none 89 s.VirtualTable, (none 89 s.LocalFiles, (only 89 s.NamedTable (named name) (made 88 s.NamedTable (named name) tt (is, tt)), (none 89 s.Expression, tt)))))))) in
     opened 90 s.Rel rel IsKnownRel (rels.rel_parts rel) (out-RawRel rel) level (out_table name names types) (made 90 s.Rel rel) tt
     (only 90 s.ReadRel rel (opened 89 s.ReadRel rel IsRead rels.read_parts (out-RawRel rel) level (out_table name names types) (made 89 s.ReadRel rel) tt all), tt)
 
@@ -214,11 +202,9 @@ join : IsSpellableAt 93 s.Rel raw.ordered_lines
 join =
     let rel = raw.ordered_lines in
     let level : Opened RawRel-F = RawRel-F.Join None (Some raw.lines) (Some raw.orders) (Some raw.is_of_order) None 1 in
-    opened 92 s.Rel rel IsKnownRel (rels.rel_parts rel) (out-RawRel rel) level out_join (made 92 s.Rel rel) tt (
-      only 92 s.JoinRel rel (opened 91 s.JoinRel rel IsJoin rels.join_parts (out-RawRel rel) level out_join (made 91 s.JoinRel rel) tt
-          (none 91 s.RelCommon, (only 91 s.Rel raw.lines lines, (only 91 s.Rel raw.orders orders, (only 91 s.Expression raw.is_of_order condition, (none 91 s.Expression, (small 1 (omega arith), tt))))))),
-      tt,
-    )
+    opened 92 s.Rel rel IsKnownRel (rels.rel_parts rel) (out-RawRel rel) level out_join (made 92 s.Rel rel) tt
+    (only 92 s.JoinRel rel (opened 91 s.JoinRel rel IsJoin rels.join_parts (out-RawRel rel) level out_join (made 91 s.JoinRel rel) tt
+    (none 91 s.RelCommon, (only 91 s.Rel raw.lines lines, (only 91 s.Rel raw.orders orders, (only 91 s.Expression raw.is_of_order condition, (none 91 s.Expression, (small 1 (omega arith), tt))))))), tt)
 
 -- by region: the sum and the count of the quantities
 group : IsSpellableAt 93 s.Grouping grouping
@@ -226,51 +212,29 @@ group =
     opened 92 s.Grouping grouping Any (λ (level : Opened Grouping-F). messages 1 s.Expression level.grouping_expressions ∷ record { number = 2; held = PackedUint32s level.expression_references } ∷ []) (out-Grouping grouping) by_region out_grouping
     (made 92 s.Grouping grouping) tt (only 92 s.Expression (raw.column 3) (column 88 3 (omega arith)), (All-nil (λ number. number < 2 ^ 32), tt))
 
-function : (function nullability : ℕ) → suc function < 2 ^ 32 → suc nullability < 2 ^ 32 → IsSpellableAt 92 s.AggregateFunction (function_of (suc function) (t.I64 (suc nullability)))
-function function nullability h g =
+function : (reference nullability : ℕ) → suc reference < 2 ^ 32 → suc nullability < 2 ^ 32 → IsSpellableAt 92 s.AggregateFunction (function_of (suc reference) (t.I64 (suc nullability)))
+function reference nullability h g =
     let ty = t.I64 (suc nullability) in
-    let one = function_of (suc function) ty in
-    opened 91 s.AggregateFunction one Any rels.aggregate_function_parts (out-AggregateFunction one) (function_level (suc function) ty) (out_function (suc function) ty) (made 91 s.AggregateFunction one) tt (
-      small (suc function) h,
-      (
-        none 91 s.SortField,
-        (
-          small 3 (omega arith),
-          (
-            only 91 s.DataType ty (whole 89 nullability g),
-            (
-              small 1 (omega arith),
-              (only 91 s.FunctionArgument (argument 1) (argument_fits 86 1 (omega arith)), (none 91 s.FunctionOption, tt)),
-            ),
-          ),
-        ),
-      ),
-    )
+    let one = function_of (suc reference) ty in
+    opened 91 s.AggregateFunction one Any rels.aggregate_function_parts (out-AggregateFunction one) (function_level (suc reference) ty) (out_function (suc reference) ty) (made 91 s.AggregateFunction one) tt
+    (small (suc reference) h, (none 91 s.SortField, (small 3 (omega arith), (only 91 s.DataType ty (whole 89 nullability g), (small 1 (omega arith),
+    (only 91 s.FunctionArgument (argument 1) (argument_fits 86 1 (omega arith)), (none 91 s.FunctionOption, tt)))))))
 
-measure : (function nullability : ℕ) → suc function < 2 ^ 32 → suc nullability < 2 ^ 32 → IsSpellableAt 93 s.Measure (raw.measure_of (suc function) (t.I64 (suc nullability)))
-measure one nullability h g =
+measure : (reference nullability : ℕ) → suc reference < 2 ^ 32 → suc nullability < 2 ^ 32 → IsSpellableAt 93 s.Measure (raw.measure_of (suc reference) (t.I64 (suc nullability)))
+measure reference nullability h g =
     let ty = t.I64 (suc nullability) in
-    let node = raw.measure_of (suc one) ty in
-    opened 92 s.Measure node Any (λ (level : Opened Measure-F). message 1 s.AggregateFunction level.measure ∷ message 2 s.Expression level.filter ∷ []) (out-Measure node) (measure_level (suc one) ty) (out_measure (suc one) ty) (made 92 s.Measure node) tt
-    (only 92 s.AggregateFunction (function_of (suc one) ty) (function one nullability h g), (none 92 s.Expression, tt))
+    let node = raw.measure_of (suc reference) ty in
+    opened 92 s.Measure node Any (λ (level : Opened Measure-F). message 1 s.AggregateFunction level.measure ∷ message 2 s.Expression level.filter ∷ []) (out-Measure node) (measure_level (suc reference) ty) (out_measure (suc reference) ty) (made 92 s.Measure node) tt
+    (only 92 s.AggregateFunction (function_of (suc reference) ty) (function reference nullability h g), (none 92 s.Expression, tt))
 
 regions : IsSpellableAt 95 s.Rel raw.regions
 regions =
     let rel = raw.regions in
     let level : Opened RawRel-F = RawRel-F.Aggregate None (Some raw.ordered_lines) (grouping ∷ []) (raw.measure_of 2 (t.I64 1) ∷ raw.measure_of 3 (t.I64 2) ∷ []) [] in
-    opened 94 s.Rel rel IsKnownRel (rels.rel_parts rel) (out-RawRel rel) level out_regions (made 94 s.Rel rel) tt (
-      only 94 s.AggregateRel rel (opened 93 s.AggregateRel rel IsAggregate rels.aggregate_parts (out-RawRel rel) level out_regions (made 93 s.AggregateRel rel) tt (
-        none 93 s.RelCommon,
-        (
-          only 93 s.Rel raw.ordered_lines join,
-          (
-            only 93 s.Grouping grouping group,
-            (two 93 s.Measure (raw.measure_of 2 (t.I64 1)) (raw.measure_of 3 (t.I64 2)) (measure 1 0 (omega arith) (omega arith)) (measure 2 1 (omega arith) (omega arith)), (none 93 s.Expression, tt)),
-          ),
-        ),
-      )),
-      tt,
-    )
+    opened 94 s.Rel rel IsKnownRel (rels.rel_parts rel) (out-RawRel rel) level out_regions (made 94 s.Rel rel) tt
+    (only 94 s.AggregateRel rel (opened 93 s.AggregateRel rel IsAggregate rels.aggregate_parts (out-RawRel rel) level out_regions (made 93 s.AggregateRel rel) tt
+    (none 93 s.RelCommon, (only 93 s.Rel raw.ordered_lines join, (only 93 s.Grouping grouping group,
+    (two 93 s.Measure (raw.measure_of 2 (t.I64 1)) (raw.measure_of 3 (t.I64 2)) (measure 1 0 (omega arith) (omega arith)) (measure 2 1 (omega arith) (omega arith)), (none 93 s.Expression, tt)))))), tt)
 
 -- the regions from the least on
 least_first : IsSpellableAt 95 s.SortField key
@@ -282,19 +246,17 @@ sorted : IsSpellableAt 97 s.Rel raw.ordered_regions
 sorted =
     let rel = raw.ordered_regions in
     let level : Opened RawRel-F = RawRel-F.Sort None (Some raw.regions) (key ∷ []) in
-    opened 96 s.Rel rel IsKnownRel (rels.rel_parts rel) (out-RawRel rel) level out_sorted (made 96 s.Rel rel) tt (
-      only 96 s.SortRel rel (opened 95 s.SortRel rel IsSort rels.sort_parts (out-RawRel rel) level out_sorted (made 95 s.SortRel rel) tt
-          (none 95 s.RelCommon, (only 95 s.Rel raw.regions regions, (only 95 s.SortField key least_first, tt)))),
-      tt,
-    )
+    opened 96 s.Rel rel IsKnownRel (rels.rel_parts rel) (out-RawRel rel) level out_sorted (made 96 s.Rel rel) tt
+    (only 96 s.SortRel rel (opened 95 s.SortRel rel IsSort rels.sort_parts (out-RawRel rel) level out_sorted (made 95 s.SortRel rel) tt
+    (none 95 s.RelCommon, (only 95 s.Rel raw.regions regions, (only 95 s.SortField key least_first, tt)))), tt)
 
 -- the plan: the files of functions, the functions, and what has the plan's only root
 uri : (anchor : ℕ) (file : List ℕ) → suc anchor < 2 ^ 32 → AreTexts (raw.uri_of file ∷ []) → IsSpellableAt 99 s.ExtensionUri (record { anchor = suc anchor; uri = raw.uri_of file })
 uri anchor file h is = made 98 s.ExtensionUri (record { anchor = suc anchor; uri = raw.uri_of file }) tt (small (suc anchor) h, (is, tt))
 
-declaration : (anchor first : ℕ) (rest : List ℕ) → suc anchor < 2 ^ 32 → AreTexts ((first ∷ rest) ∷ []) → IsSpellableAt 99 s.ExtensionDeclaration (record { uri = suc anchor; anchor = suc anchor; name = first ∷ rest })
-declaration anchor first rest h is =
-    let function : FunDecl = record { uri = suc anchor; anchor = suc anchor; name = first ∷ rest } in
+declaration : (anchor : ℕ) (name : List ℕ) → suc anchor < 2 ^ 32 → AreTexts (unless_empty name) → IsSpellableAt 99 s.ExtensionDeclaration (record { uri = suc anchor; anchor = suc anchor; name = name })
+declaration anchor name h is =
+    let function : FunDecl = record { uri = suc anchor; anchor = suc anchor; name = name } in
     made 98 s.ExtensionDeclaration function tt (only 98 s.ExtensionFunction function (made 97 s.ExtensionFunction function tt (small (suc anchor) h, (small (suc anchor) h, (is, tt)))), tt)
 
 abbrev root : RootDecl
@@ -312,8 +274,11 @@ uris =
 functions : All (IsSpellableAt 99 s.ExtensionDeclaration) raw.functions
 functions =
     All-from_recursion (IsSpellableAt 99 s.ExtensionDeclaration) raw.functions
-    (declaration 0 101 (codes "qual:any_any") (omega arith) equal_name, (declaration 1 115 (codes "um:i64") (omega arith) sum_name, (declaration 2 99 (codes "ount:any") (omega arith) count_name, tt)))
+    (declaration 0 (codes "equal:any_any") (omega arith) equal_name, (declaration 1 (codes "sum:i64") (omega arith) sum_name, (declaration 2 (codes "count:any") (omega arith) count_name, tt)))
 
-pub plan_fits : IsSpellableAt 100 s.Plan raw.demo_tree
+plan_fits : IsSpellableAt 100 s.Plan raw.demo_tree
 unfolding raw.demo_tree
 plan_fits = made 99 s.Plan raw.demo_tree tt (uris, (functions, (only 99 s.PlanRel root root_fits, tt)))
+
+pub plan_is_spellable : IsSpellable raw.demo_tree
+plan_is_spellable = record { fits = plan_fits; short = omega (arith, plan_is_short) }
