@@ -163,9 +163,13 @@ argument_fits n place h =
 -- the condition of the join
 call : IsSpellableAt 90 s.ScalarFunction raw.is_of_order
 call =
-    opened 89 s.ScalarFunction raw.is_of_order IsScalarFunction exprs.scalar_function_parts (out-RawExpr raw.is_of_order) (RawExpr-F.ScalarFunction 1 (Some (t.Bool 1)) both []) out_is_of_order (made 89 s.ScalarFunction raw.is_of_order) tt
-    (small 1 (omega arith), (only 89 s.DataType (t.Bool 1) (truth 87),
-    (two 89 s.FunctionArgument (argument 0) (argument 2) (argument_fits 84 0 (omega arith)) (argument_fits 84 2 (omega arith)), (none 89 s.FunctionOption, tt))))
+    opened 89 s.ScalarFunction raw.is_of_order IsScalarFunction exprs.scalar_function_parts (out-RawExpr raw.is_of_order) (RawExpr-F.ScalarFunction 1 (Some (t.Bool 1)) both []) out_is_of_order (made 89 s.ScalarFunction raw.is_of_order) tt (
+      small 1 (omega arith),
+      (
+        only 89 s.DataType (t.Bool 1) (truth 87),
+        (two 89 s.FunctionArgument (argument 0) (argument 2) (argument_fits 84 0 (omega arith)) (argument_fits 84 2 (omega arith)), (none 89 s.FunctionOption, tt)),
+      ),
+    )
 
 condition : IsSpellableAt 91 s.Expression raw.is_of_order
 condition =
@@ -182,12 +186,22 @@ table name names types is are fit =
     let rel = raw.table name names types in
     let level : Opened RawRel-F = RawRel-F.Read None (Some (schema names types)) None None (source.NamedTable (named name)) None in
     let parts : Opened RawSource-F → List Part =
-        (λ one. message 1 s.RelCommon None ∷ message 2 s.NamedStruct (Some (schema names types)) ∷ message 3 s.Expression None ∷ message 4 s.MaskExpression None
-        ∷ messages 5 s.VirtualTable (rels.virtual_tables one) ∷ messages 6 s.LocalFiles (rels.local_files one) ∷ messages 7 s.NamedTable (rels.named_tables one) ∷ message 11 s.Expression None ∷ []) in
+    (λ one. message 1 s.RelCommon None ∷ message 2 s.NamedStruct (Some (schema names types)) ∷ message 3 s.Expression None ∷ message 4 s.MaskExpression None
+    ∷ messages 5 s.VirtualTable (rels.virtual_tables one) ∷ messages 6 s.LocalFiles (rels.local_files one) ∷ messages 7 s.NamedTable (rels.named_tables one) ∷ message 11 s.Expression None ∷ []) in
     let all : Fitting 89 s.ReadRel (rels.read_parts level) =
-        subst (λ one. Fitting 89 s.ReadRel (parts one)) (sym (out_source name))
-        (none 89 s.RelCommon, (only 89 s.NamedStruct (schema names types) (schema_fits names types are fit), (none 89 s.Expression, (none 89 s.MaskExpression,
-        (none 89 s.VirtualTable, (none 89 s.LocalFiles, (only 89 s.NamedTable (named name) (made 88 s.NamedTable (named name) tt (is, tt)), (none 89 s.Expression, tt)))))))) in
+    subst (λ one. Fitting 89 s.ReadRel (parts one)) (sym (out_source name)) (
+      none 89 s.RelCommon,
+      (
+        only 89 s.NamedStruct (schema names types) (schema_fits names types are fit),
+        (
+          none 89 s.Expression,
+          (
+            none 89 s.MaskExpression,
+            (none 89 s.VirtualTable, (none 89 s.LocalFiles, (only 89 s.NamedTable (named name) (made 88 s.NamedTable (named name) tt (is, tt)), (none 89 s.Expression, tt)))),
+          ),
+        ),
+      ),
+    ) in
     opened 90 s.Rel rel IsKnownRel (rels.rel_parts rel) (out-RawRel rel) level (out_table name names types) (made 90 s.Rel rel) tt
     (only 90 s.ReadRel rel (opened 89 s.ReadRel rel IsRead rels.read_parts (out-RawRel rel) level (out_table name names types) (made 89 s.ReadRel rel) tt all), tt)
 
@@ -202,9 +216,11 @@ join : IsSpellableAt 93 s.Rel raw.ordered_lines
 join =
     let rel = raw.ordered_lines in
     let level : Opened RawRel-F = RawRel-F.Join None (Some raw.lines) (Some raw.orders) (Some raw.is_of_order) None 1 in
-    opened 92 s.Rel rel IsKnownRel (rels.rel_parts rel) (out-RawRel rel) level out_join (made 92 s.Rel rel) tt
-    (only 92 s.JoinRel rel (opened 91 s.JoinRel rel IsJoin rels.join_parts (out-RawRel rel) level out_join (made 91 s.JoinRel rel) tt
-    (none 91 s.RelCommon, (only 91 s.Rel raw.lines lines, (only 91 s.Rel raw.orders orders, (only 91 s.Expression raw.is_of_order condition, (none 91 s.Expression, (small 1 (omega arith), tt))))))), tt)
+    opened 92 s.Rel rel IsKnownRel (rels.rel_parts rel) (out-RawRel rel) level out_join (made 92 s.Rel rel) tt (
+      only 92 s.JoinRel rel (opened 91 s.JoinRel rel IsJoin rels.join_parts (out-RawRel rel) level out_join (made 91 s.JoinRel rel) tt
+          (none 91 s.RelCommon, (only 91 s.Rel raw.lines lines, (only 91 s.Rel raw.orders orders, (only 91 s.Expression raw.is_of_order condition, (none 91 s.Expression, (small 1 (omega arith), tt))))))),
+      tt,
+    )
 
 -- by region: the sum and the count of the quantities
 group : IsSpellableAt 93 s.Grouping grouping
@@ -216,9 +232,22 @@ function : (reference nullability : ℕ) → suc reference < 2 ^ 32 → suc null
 function reference nullability h g =
     let ty = t.I64 (suc nullability) in
     let one = function_of (suc reference) ty in
-    opened 91 s.AggregateFunction one Any rels.aggregate_function_parts (out-AggregateFunction one) (function_level (suc reference) ty) (out_function (suc reference) ty) (made 91 s.AggregateFunction one) tt
-    (small (suc reference) h, (none 91 s.SortField, (small 3 (omega arith), (only 91 s.DataType ty (whole 89 nullability g), (small 1 (omega arith),
-    (only 91 s.FunctionArgument (argument 1) (argument_fits 86 1 (omega arith)), (none 91 s.FunctionOption, tt)))))))
+    opened 91 s.AggregateFunction one Any rels.aggregate_function_parts (out-AggregateFunction one) (function_level (suc reference) ty) (out_function (suc reference) ty) (made 91 s.AggregateFunction one) tt (
+      small (suc reference) h,
+      (
+        none 91 s.SortField,
+        (
+          small 3 (omega arith),
+          (
+            only 91 s.DataType ty (whole 89 nullability g),
+            (
+              small 1 (omega arith),
+              (only 91 s.FunctionArgument (argument 1) (argument_fits 86 1 (omega arith)), (none 91 s.FunctionOption, tt)),
+            ),
+          ),
+        ),
+      ),
+    )
 
 measure : (reference nullability : ℕ) → suc reference < 2 ^ 32 → suc nullability < 2 ^ 32 → IsSpellableAt 93 s.Measure (raw.measure_of (suc reference) (t.I64 (suc nullability)))
 measure reference nullability h g =
@@ -231,10 +260,19 @@ regions : IsSpellableAt 95 s.Rel raw.regions
 regions =
     let rel = raw.regions in
     let level : Opened RawRel-F = RawRel-F.Aggregate None (Some raw.ordered_lines) (grouping ∷ []) (raw.measure_of 2 (t.I64 1) ∷ raw.measure_of 3 (t.I64 2) ∷ []) [] in
-    opened 94 s.Rel rel IsKnownRel (rels.rel_parts rel) (out-RawRel rel) level out_regions (made 94 s.Rel rel) tt
-    (only 94 s.AggregateRel rel (opened 93 s.AggregateRel rel IsAggregate rels.aggregate_parts (out-RawRel rel) level out_regions (made 93 s.AggregateRel rel) tt
-    (none 93 s.RelCommon, (only 93 s.Rel raw.ordered_lines join, (only 93 s.Grouping grouping group,
-    (two 93 s.Measure (raw.measure_of 2 (t.I64 1)) (raw.measure_of 3 (t.I64 2)) (measure 1 0 (omega arith) (omega arith)) (measure 2 1 (omega arith) (omega arith)), (none 93 s.Expression, tt)))))), tt)
+    opened 94 s.Rel rel IsKnownRel (rels.rel_parts rel) (out-RawRel rel) level out_regions (made 94 s.Rel rel) tt (
+      only 94 s.AggregateRel rel (opened 93 s.AggregateRel rel IsAggregate rels.aggregate_parts (out-RawRel rel) level out_regions (made 93 s.AggregateRel rel) tt (
+        none 93 s.RelCommon,
+        (
+          only 93 s.Rel raw.ordered_lines join,
+          (
+            only 93 s.Grouping grouping group,
+            (two 93 s.Measure (raw.measure_of 2 (t.I64 1)) (raw.measure_of 3 (t.I64 2)) (measure 1 0 (omega arith) (omega arith)) (measure 2 1 (omega arith) (omega arith)), (none 93 s.Expression, tt)),
+          ),
+        ),
+      )),
+      tt,
+    )
 
 -- the regions from the least on
 least_first : IsSpellableAt 95 s.SortField key
@@ -246,9 +284,11 @@ sorted : IsSpellableAt 97 s.Rel raw.ordered_regions
 sorted =
     let rel = raw.ordered_regions in
     let level : Opened RawRel-F = RawRel-F.Sort None (Some raw.regions) (key ∷ []) in
-    opened 96 s.Rel rel IsKnownRel (rels.rel_parts rel) (out-RawRel rel) level out_sorted (made 96 s.Rel rel) tt
-    (only 96 s.SortRel rel (opened 95 s.SortRel rel IsSort rels.sort_parts (out-RawRel rel) level out_sorted (made 95 s.SortRel rel) tt
-    (none 95 s.RelCommon, (only 95 s.Rel raw.regions regions, (only 95 s.SortField key least_first, tt)))), tt)
+    opened 96 s.Rel rel IsKnownRel (rels.rel_parts rel) (out-RawRel rel) level out_sorted (made 96 s.Rel rel) tt (
+      only 96 s.SortRel rel (opened 95 s.SortRel rel IsSort rels.sort_parts (out-RawRel rel) level out_sorted (made 95 s.SortRel rel) tt
+          (none 95 s.RelCommon, (only 95 s.Rel raw.regions regions, (only 95 s.SortField key least_first, tt)))),
+      tt,
+    )
 
 -- the plan: the files of functions, the functions, and what has the plan's only root
 uri : (anchor : ℕ) (file : List ℕ) → suc anchor < 2 ^ 32 → AreTexts (raw.uri_of file ∷ []) → IsSpellableAt 99 s.ExtensionUri (record { anchor = suc anchor; uri = raw.uri_of file })

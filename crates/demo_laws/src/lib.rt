@@ -8,5 +8,7 @@ mod plan;
 mod rows;
 
 pub use files::demo_files_hold_the_tables;
-pub use plan::{demo_plan_is_accepted, demo_plan_is_short, demo_plan_is_spellable, demo_plan_reads};
+pub use plan::{
+    demo_plan_is_accepted, demo_plan_is_short, demo_plan_is_spellable, demo_plan_reads,
+};
 pub use rows::demo_denotes_no_fault;

@@ -32,7 +32,7 @@ use Rattle.gen_data.specs.Summary.{demo_tables, demo_rows}
 use Rattle.demo_laws.proofs.AcceptedLaws.{accepted}
 use Rattle.demo_laws.proofs.ReadsLaws.{reads_are}
 use Rattle.demo_laws.proofs.SpelledLaws.{plan_is_short}
-use Rattle.demo_laws.proofs.FittingLaws.{plan_fits}
+use Rattle.demo_laws.proofs.FittingLaws.{plan_is_spellable}
 use Rattle.demo_laws.proofs.FilesOpened.{Opens, opens, plan_there}
 use Rattle.demo_laws.proofs.DemoLevels.{denotes_over, demo_over}
 use Rattle.demo_laws.proofs.DemoRowLaws.{demo_clean}
@@ -52,7 +52,7 @@ plan_read : tree_in (spelled demo_tree) ≡ Ok demo_tree
 unfolding tree_in
 plan_read =
     let short : nat_le (length (spelled demo_tree)) MAX_PLAN ≡ true = le-leb (length (spelled demo_tree)) MAX_PLAN plan_is_short in
-    let read : plan_of (spelled demo_tree) ≡ Ok demo_tree = read_back demo_tree (record { fits = plan_fits; short = omega (arith, plan_is_short) }) in
+    let read : plan_of (spelled demo_tree) ≡ Ok demo_tree = read_back demo_tree plan_is_spellable in
     rw (short, read) refl
 
 plan_accepted : (number : ℕ) → accepted_at (demo_files number) (codes "plan") ≡ Ok demo_plan

@@ -73,7 +73,10 @@ fn run_demo(alloc: Global, reading: DemoReading) -> Result<Ran, Status>
     ensures report { IfOk result (λ ran. IsDemoReport (demo_seen reading) (record { rows = length ran.rows.items; receipts = ran.receipts })) }
     ensures memory { IfErr result (λ refusal. refusal ≡ Status.NoMemory) }
 {
-    let (mut folder, bindings) = match zip(demo_folder(alloc, reading.number), demo_bindings(alloc)) {
+    let (mut folder, bindings) = match zip(
+        demo_folder(alloc, reading.number),
+        demo_bindings(alloc),
+    ) {
         Ok(both) => both,
         Err(NoMemory) => return Err(Status::NoMemory),
     };
