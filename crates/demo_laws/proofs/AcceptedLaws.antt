@@ -1,63 +1,59 @@
 -- The demo's plan is accepted: what each of its messages is checked as, from the leaves.
-use Rattle.std.proofs.Common.{◌≡◌, ◌∙◌, ◌+◌, ℕ, pos, List, [], ◌∷◌, ◌++◌, true, false, Option, Some, None, Result, Ok, map, refl, sym, ap, rules}
+use Rattle.std.proofs.Common.{◌≡◌, ◌∙◌, ◌+◌, ℕ, List, [], ◌∷◌, ◌++◌, true, false, Some, None, Result, Ok, map, refl, sym, ap, rules}
+use Rattle.std.specs.Option.{option_map}
 use Rattle.std.specs.Prelude.{codes, ◌||◌, ◌==◌, length, nat_le}
 use Rattle.sub_types.specs.declared.kind.Kind.TheVariants as kinds
 use Rattle.sub_types.specs.declared.kind.Ty.{Ty}
-use Rattle.plan_leaves.specs.declared.schema.NamedStruct.{NamedStruct}
-use Rattle.plan_leaves.specs.declared.schema.NamedTable.{NamedTable}
 use Rattle.plan_leaves.specs.declared.types.RawType.{RawType}
 use Rattle.plan_leaves.specs.declared.types.RawType.TheVariants as t
-use Rattle.plan_raw.specs.declared.argument.FunctionArgument.TheVariants as a
-use Rattle.plan_raw.specs.declared.expr.RawExpr.{RawExpr-F}
+use Rattle.plan_raw.specs.declared.aggregate.AggregateFunction.{AggregateFunction-F}
+use Rattle.plan_raw.specs.declared.aggregate.Grouping.{Grouping-F}
+use Rattle.plan_raw.specs.declared.aggregate.Measure.{Measure-F}
+use Rattle.plan_raw.specs.declared.aggregate.SortField.{SortField-F}
+use Rattle.plan_raw.specs.declared.expr.RawExpr.{RawExpr-F, the_lemmas}
 use Rattle.plan_raw.specs.declared.rel.RawRel.{RawRel-F}
 use Rattle.plan_raw.specs.declared.source.RawSource.{RawSource-F}
 use Rattle.plan_raw.specs.declared.source.RawSource.TheVariants as source
+use Rattle.plan_tree.specs.Fold.{Opened}
+use Rattle.plan_tree.specs.Numbering.{relation_count}
 use Rattle.plan_typed.specs.declared.expr.Expr.{Expr, Expr-F, out-roll-Expr}
 use Rattle.plan_typed.specs.declared.expr.Expr.TheVariants as e
-use Rattle.plan_typed.specs.declared.rel.Rel.{Rel, Rel-F, roll-Rel, out-roll-Rel}
-use Rattle.plan_typed.specs.Types.{ty_of, ty_in, columns_of}
-use Rattle.plan_verdict.specs.declared.progress.Progress.{Progress}
-use Rattle.plan_verdict.specs.declared.rule.Rule.TheVariants as rules_of
-use Rattle.plan_verdict.specs.Checking.{Checking, Refusal, go_on, in_order, ◌>>=◌, ◌>>◌, accept, part, must}
-use Rattle.plan_verdict.specs.Exprs.{Terms, expression, condition}
-use Rattle.plan_verdict.specs.Meaning.{Scope, Expression, Sets, Checked}
-use Rattle.plan_verdict.specs.Relation.{numbered, finished}
-use Rattle.plan_verdict.specs.Reads.{source_in}
-use Rattle.plan_verdict.specs.Verdict.{member, checked_argument, checked_expr, checked_rel}
-use Rattle.func_table.specs.declared.row.Class.TheVariants as classes
-use Rattle.func_table.specs.Table.{table}
-use Rattle.plan_typed.specs.declared.expr.Func.TheVariants as funcs
-use Rattle.plan_typed.specs.declared.expr.Overflow.TheVariants as modes
 use Rattle.plan_typed.specs.declared.expr.Func.{Func}
+use Rattle.plan_typed.specs.declared.expr.Func.TheVariants as funcs
 use Rattle.plan_typed.specs.declared.expr.Overflow.{Overflow}
+use Rattle.plan_typed.specs.declared.expr.Overflow.TheVariants as modes
 use Rattle.plan_typed.specs.declared.rel.JoinKind.TheVariants as joins
 use Rattle.plan_typed.specs.declared.rel.Op.{Op}
 use Rattle.plan_typed.specs.declared.rel.Op.TheVariants as ops
-use Rattle.plan_typed.specs.declared.rel.Source.TheVariants as sources
-use Rattle.func_table.specs.Kinds.{is_equal}
-use Rattle.plan_verdict.specs.declared.call.Call.{Call}
-use Rattle.plan_verdict.specs.Rels.{over, join_over, sort_key}
-use Rattle.std.specs.Option.{option_map}
-use Rattle.plan_raw.specs.declared.aggregate.AggregateFunction.{AggregateFunction-F, roll-AggregateFunction}
-use Rattle.plan_raw.specs.declared.aggregate.Grouping.{Grouping-F, roll-Grouping, out-roll-Grouping}
-use Rattle.plan_raw.specs.declared.aggregate.Measure.{Measure-F, out-roll-Measure}
-use Rattle.plan_raw.specs.declared.aggregate.SortField.{SortField-F, roll-SortField, out-roll-SortField}
-use Rattle.plan_raw.specs.declared.expr.RawExpr.{the_lemmas}
-use Rattle.plan_typed.specs.declared.rel.SortKey.{SortKey}
-use Rattle.plan_typed.specs.declared.rel.Typed.{Typed}
-use Rattle.plan_tree.specs.Numbering.{relation_count}
-use Rattle.plan_tree.specs.Fold.{Opened}
+use Rattle.plan_typed.specs.declared.rel.Rel.{Rel, Rel-F, roll-Rel, out-roll-Rel}
 use Rattle.plan_typed.specs.declared.rel.SetMeasure.{SetMeasure}
+use Rattle.plan_typed.specs.declared.rel.SortKey.{SortKey}
+use Rattle.plan_typed.specs.declared.rel.Source.TheVariants as sources
+use Rattle.plan_typed.specs.declared.rel.Typed.{Typed}
 use Rattle.plan_typed.specs.declared.rel.TypedMeasure.{TypedMeasure}
+use Rattle.plan_typed.specs.Types.{ty_of, ty_in, columns_of}
+use Rattle.func_table.specs.declared.row.Class.TheVariants as classes
+use Rattle.func_table.specs.Kinds.{is_equal}
+use Rattle.func_table.specs.Table.{table}
+use Rattle.plan_verdict.specs.declared.call.Call.{Call}
+use Rattle.plan_verdict.specs.declared.progress.Progress.{Progress}
+use Rattle.plan_verdict.specs.declared.rule.Rule.TheVariants as rules_of
+use Rattle.plan_verdict.proofs.FoldLaws.{checked_grouping-out, checked_measure-out, checked_sort-out, checked_expr-ScalarFunction, checked_expr-Selection, checked_argument-Value, checked_rel-Read, checked_rel-Join, checked_rel-Aggregate, checked_rel-Sort, checked_source-NamedTable}
 use Rattle.plan_verdict.specs.Aggregates.{aggregate_function, measure_in, measured, groups_in, aggregate_op, aggregate_columns}
-use Rattle.plan_verdict.specs.Verdict.{MAX_RELATIONS, start, holed, verdict, checked_function, checked_grouping, checked_measure, checked_sort}
-use Rattle.plan_verdict.proofs.FoldLaws.{checked_grouping-out, checked_measure-out, checked_sort-out}
 use Rattle.plan_verdict.specs.Calls.{Named, named_in, call_in}
-use Rattle.plan_verdict.proofs.FoldLaws.{checked_expr-ScalarFunction, checked_expr-Selection, checked_argument-Value, checked_rel-Read, checked_rel-Join, checked_rel-Aggregate, checked_rel-Sort, checked_source-NamedTable}
-use Rattle.demo_laws.proofs.CountedLaws.{five_relations}
-use Rattle.gen_data.specs.Plan as raw
+use Rattle.plan_verdict.specs.Checking.{Checking, Refusal, go_on, in_order, ◌>>=◌, ◌>>◌, accept, part, must}
+use Rattle.plan_verdict.specs.Exprs.{Terms, expression, condition}
+use Rattle.plan_verdict.specs.Meaning.{Scope, Expression, Sets, Checked}
+use Rattle.plan_verdict.specs.Reads.{source_in}
+use Rattle.plan_verdict.specs.Relation.{numbered, finished}
+use Rattle.plan_verdict.specs.Rels.{over, join_over, sort_key}
+use Rattle.plan_verdict.specs.Verdict.{member, checked_argument, checked_expr, checked_rel, MAX_RELATIONS, start, holed, verdict, checked_function, checked_grouping, checked_measure, checked_sort}
 use Rattle.gen_data.specs.Checked as typed
+use Rattle.gen_data.specs.Plan as raw
+use Rattle.demo_laws.proofs.CountedLaws.{five_relations}
+use Rattle.demo_laws.proofs.OpenedLaws.{segment, argument, both, schema, named, grouping, out_grouping, function_of, out_measure, key, out_key}
 
+-- what the plan declares
 abbrev terms : Terms
 terms = record { declared = record { uris = raw.uris; functions = raw.functions }; with_subqueries = true }
 
@@ -75,12 +71,12 @@ numbered_is relation rel number outer relations nodes e = then_is (relation numb
 
 -- a column of the input
 abbrev selection : ℕ → Checked RawExpr-F
-selection place = RawExpr-F.Selection (Some (record { struct_field = Some (record { field = pos place; child = false }) })) true false
+selection place = RawExpr-F.Selection (Some (segment place)) true false
 
 column_is : (place : ℕ) → checked_expr terms (raw.column place) ≡ expression terms (selection place)
-column_is place = checked_expr-Selection terms (Some (record { struct_field = Some (record { field = pos place; child = false }) })) true false
+column_is place = checked_expr-Selection terms (Some (segment place)) true false
 
-argument_is : (place : ℕ) → checked_argument terms (a.Value (raw.column place)) ≡ Some (expression terms (selection place))
+argument_is : (place : ℕ) → checked_argument terms (argument place) ≡ Some (expression terms (selection place))
 argument_is place = checked_argument-Value terms (raw.column place) ∙ ap Some (column_is place)
 
 -- the types of columns and calls, and the columns of relations
@@ -97,16 +93,10 @@ table_columns : (number : ℕ) (name : List ℕ) (names : List (List ℕ)) (type
 table_columns number name names types = rel_columns number (ops.Read (sources.Named (name ∷ [])) names types None (0 ∷ 1 ∷ [])) (0 ∷ 1 ∷ []) types
 
 -- the tables
-abbrev schema : List (List ℕ) → List RawType → Option NamedStruct
-schema names types = Some (record { names = names; struct_ = Some (record { types = types }) })
-
-abbrev named : List ℕ → NamedTable
-named name = record { names = name ∷ [] }
-
-table_is : (name : List ℕ) (names : List (List ℕ)) (types : List RawType) → checked_rel terms (raw.table name names types) ≡ member (RawRel-F.Read None (schema names types) None None (source_in (RawSource-F.NamedTable (named name))) None)
+table_is : (name : List ℕ) (names : List (List ℕ)) (types : List RawType) → checked_rel terms (raw.table name names types) ≡ member (RawRel-F.Read None (Some (schema names types)) None None (source_in (RawSource-F.NamedTable (named name))) None)
 table_is name names types =
-    checked_rel-Read terms None (schema names types) None None (source.NamedTable (named name)) None
-    ∙ ap (λ one. member (RawRel-F.Read None (schema names types) None None one None)) (checked_source-NamedTable terms (named name))
+    checked_rel-Read terms None (Some (schema names types)) None None (source.NamedTable (named name)) None
+    ∙ ap (λ one. member (RawRel-F.Read None (Some (schema names types)) None None one None)) (checked_source-NamedTable terms (named name))
 
 lines_checked : checked_rel terms raw.lines 3 (so_far 4 0) ≡ Ok (typed.lines, so_far 4 0)
 lines_checked = ap (λ relation. relation 3 (so_far 4 0)) (table_is (codes "lines") raw.line_names (raw.whole_type ∷ raw.whole_type ∷ []))
@@ -123,7 +113,7 @@ of_both = record { relation = 2; columns = joined_types }
 
 is_of_order_is : checked_expr terms raw.is_of_order ≡ expression terms (RawExpr-F.ScalarFunction 1 (Some (t.Bool 1)) (Some (expression terms (selection 0)) ∷ Some (expression terms (selection 2)) ∷ []) [])
 is_of_order_is =
-    checked_expr-ScalarFunction terms 1 (Some (t.Bool 1)) (a.Value (raw.column 0) ∷ a.Value (raw.column 2) ∷ []) []
+    checked_expr-ScalarFunction terms 1 (Some (t.Bool 1)) both []
     ∙ (λ i. expression terms (RawExpr-F.ScalarFunction 1 (Some (t.Bool 1)) (argument_is 0 i ∷ argument_is 2 i ∷ []) []))
 
 abbrev equal : Named
@@ -143,7 +133,7 @@ equal_called = refl
 abbrev equal_call : Call
 equal_call = record { func = funcs.Equal; mode = modes.Error; ty = truth_type }
 
--- it is so of the types of these columns
+-- the same by the columns that the call is given
 equal_found : call_in equal classes.Scalar (map ty_of (e.Column 0 typed.whole_type ∷ e.Column 2 typed.whole_type ∷ [])) (Some (t.Bool 1)) [] ≡ Ok equal_call
 equal_found = (λ i. call_in equal classes.Scalar (column_type 0 typed.whole_type i ∷ column_type 2 typed.whole_type i ∷ []) (Some (t.Bool 1)) []) ∙ equal_called
 
@@ -181,36 +171,29 @@ ordered_lines_checked =
 abbrev of_lines : Scope
 of_lines = record { relation = 1; columns = joined_types }
 
-abbrev by_region : Opened Grouping-F
-by_region = record { grouping_expressions = raw.column 3 ∷ []; expression_references = [] }
-
-grouping_is : checked_grouping terms (roll-Grouping by_region) ≡ record { expressions = expression terms (selection 3) ∷ []; references = [] }
+grouping_is : checked_grouping terms grouping ≡ record { expressions = expression terms (selection 3) ∷ []; references = [] }
 grouping_is =
-    checked_grouping-out terms (roll-Grouping by_region)
-    ∙ ap (λ (level : Opened Grouping-F). record { expressions = map (checked_expr terms) level.grouping_expressions; references = level.expression_references }) (out-roll-Grouping by_region)
+    checked_grouping-out terms grouping
+    ∙ ap (λ (level : Opened Grouping-F). record { expressions = map (checked_expr terms) level.grouping_expressions; references = level.expression_references }) out_grouping
     ∙ (λ i. record { expressions = column_is 3 i ∷ []; references = [] })
 
 -- an aggregate function of the quantities
-abbrev function_of : ℕ → RawType → Opened AggregateFunction-F
-function_of function ty = record { function_reference = function; sorts = []; phase = 3; output_type = Some ty; invocation = 1; arguments = a.Value (raw.column 1) ∷ []; options = [] }
-
 abbrev quantities : ℕ → RawType → Checked AggregateFunction-F
 quantities function ty = record { function_reference = function; sorts = []; phase = 3; output_type = Some ty; invocation = 1; arguments = Some (expression terms (selection 1)) ∷ []; options = [] }
 
-function_opened : (function : ℕ) (ty : RawType) → checked_function terms (roll-AggregateFunction (function_of function ty)) ≡ aggregate_function terms (record { function_reference = function; sorts = []; phase = 3; output_type = Some ty; invocation = 1; arguments = checked_argument terms (a.Value (raw.column 1)) ∷ []; options = [] })
+function_opened : (function : ℕ) (ty : RawType) → checked_function terms (function_of function ty) ≡ aggregate_function terms (record { function_reference = function; sorts = []; phase = 3; output_type = Some ty; invocation = 1; arguments = checked_argument terms (argument 1) ∷ []; options = [] })
 unfolding checked_function checked_argument
 function_opened function ty = search (rules, the_lemmas)
 
-function_is : (function : ℕ) (ty : RawType) → checked_function terms (roll-AggregateFunction (function_of function ty)) ≡ aggregate_function terms (quantities function ty)
+function_is : (function : ℕ) (ty : RawType) → checked_function terms (function_of function ty) ≡ aggregate_function terms (quantities function ty)
 function_is function ty =
     function_opened function ty
     ∙ (λ i. aggregate_function terms (record { function_reference = function; sorts = []; phase = 3; output_type = Some ty; invocation = 1; arguments = argument_is 1 i ∷ []; options = [] }))
 
 measure_is : (function : ℕ) (ty : RawType) → checked_measure terms (raw.measure_of function ty) ≡ measure_in (Some (aggregate_function terms (quantities function ty))) None
 measure_is function ty =
-    let level : Opened Measure-F = record { measure = Some (roll-AggregateFunction (function_of function ty)); filter = None } in
     checked_measure-out terms (raw.measure_of function ty)
-    ∙ ap (λ (level : Opened Measure-F). measure_in (option_map (checked_function terms) level.measure) (option_map (checked_expr terms) level.filter)) (out-roll-Measure level)
+    ∙ ap (λ (level : Opened Measure-F). measure_in (option_map (checked_function terms) level.measure) (option_map (checked_expr terms) level.filter)) (out_measure function ty)
     ∙ ap (λ one. measure_in (Some one) None) (function_is function ty)
 
 abbrev sum : Named
@@ -276,13 +259,13 @@ sum_in = measure_in (Some (aggregate_function terms (quantities 2 (t.I64 1)))) N
 abbrev count_in : Scope → Checking SetMeasure
 count_in = measure_in (Some (aggregate_function terms (quantities 3 (t.I64 2)))) None
 
-abbrev both : List SetMeasure
-both = in_measures sum_measure ∷ in_measures count_measure ∷ []
+abbrev both_measures : List SetMeasure
+both_measures = in_measures sum_measure ∷ in_measures count_measure ∷ []
 
-measures_checked : in_order (sum_in of_lines ∷ count_in of_lines ∷ []) (so_far 5 1) ≡ Ok (both, so_far 5 3)
+measures_checked : in_order (sum_in of_lines ∷ count_in of_lines ∷ []) (so_far 5 1) ≡ Ok (both_measures, so_far 5 3)
 measures_checked =
-    then_is (sum_in of_lines (so_far 5 1)) _ (in_measures sum_measure) (so_far 5 2) (Ok (both, so_far 5 3)) sum_checked
-    (then_is (in_order (count_in of_lines ∷ []) (so_far 5 2)) _ (in_measures count_measure ∷ []) (so_far 5 3) (Ok (both, so_far 5 3))
+    then_is (sum_in of_lines (so_far 5 1)) _ (in_measures sum_measure) (so_far 5 2) (Ok (both_measures, so_far 5 3)) sum_checked
+    (then_is (in_order (count_in of_lines ∷ []) (so_far 5 2)) _ (in_measures count_measure ∷ []) (so_far 5 3) (Ok (both_measures, so_far 5 3))
     (then_is (count_in of_lines (so_far 5 2)) _ (in_measures count_measure) (so_far 5 3) (Ok (in_measures count_measure ∷ [], so_far 5 3)) count_checked refl) refl)
 
 -- the lines by the regions of their orders
@@ -304,38 +287,35 @@ region_types region = record { kind = region.kind; nullable = region.nullable ||
 regions_finished : finished 1 None (ops.Aggregate typed.ordered_lines (e.Column 3 typed.text_type ∷ []) typed.measures) (region_types (ty_of (e.Column 3 typed.text_type))) (so_far 5 3) ≡ Ok (typed.regions, so_far 5 3)
 regions_finished = λ i. finished 1 None (ops.Aggregate typed.ordered_lines (e.Column 3 typed.text_type ∷ []) typed.measures) (region_types (column_type 3 typed.text_type i)) (so_far 5 3)
 
-regions_is : aggregate_of (columns_of typed.ordered_lines) (checked_grouping terms (roll-Grouping by_region)) measures_of ≡ Ok (typed.regions, so_far 5 3)
+regions_is : aggregate_of (columns_of typed.ordered_lines) (checked_grouping terms grouping) measures_of ≡ Ok (typed.regions, so_far 5 3)
 regions_is =
     (λ i. aggregate_of (ordered_lines_columns i) (grouping_is i) (measure_is 2 (t.I64 1) i ∷ measure_is 3 (t.I64 2) i ∷ []))
-    ∙ then_is (in_order (sum_in of_lines ∷ count_in of_lines ∷ []) (so_far 5 1)) _ both (so_far 5 3) (Ok (typed.regions, so_far 5 3)) measures_checked regions_finished
+    ∙ then_is (in_order (sum_in of_lines ∷ count_in of_lines ∷ []) (so_far 5 1)) _ both_measures (so_far 5 3) (Ok (typed.regions, so_far 5 3)) measures_checked regions_finished
 
 regions_checked : checked_rel terms raw.regions 1 (so_far 2 0) ≡ Ok (typed.regions, so_far 5 3)
 regions_checked =
-    ap (λ relation. relation 1 (so_far 2 0)) (checked_rel-Aggregate terms None (Some raw.ordered_lines) (roll-Grouping by_region ∷ []) (raw.measure_of 2 (t.I64 1) ∷ raw.measure_of 3 (t.I64 2) ∷ []) [])
+    ap (λ relation. relation 1 (so_far 2 0)) (checked_rel-Aggregate terms None (Some raw.ordered_lines) (grouping ∷ []) (raw.measure_of 2 (t.I64 1) ∷ raw.measure_of 3 (t.I64 2) ∷ []) [])
     ∙ then_is (numbered (checked_rel terms raw.ordered_lines) (so_far 2 0)) _ typed.ordered_lines (so_far 5 0) (Ok (typed.regions, so_far 5 3)) (numbered_is (checked_rel terms raw.ordered_lines) typed.ordered_lines 2 0 5 3 ordered_lines_checked) regions_is
 
 -- the regions from the least on
 regions_columns : columns_of typed.regions ≡ typed.result_types
 regions_columns = rel_columns 1 (ops.Aggregate typed.ordered_lines (e.Column 3 typed.text_type ∷ []) typed.measures) (0 ∷ 1 ∷ 2 ∷ []) typed.result_types
 
-abbrev least_first : Opened SortField-F
-least_first = record { expr = Some (raw.column 0); direction = 1 }
-
-key_is : checked_sort terms (roll-SortField least_first) ≡ sort_key (Some (expression terms (selection 0))) 1
+key_is : checked_sort terms key ≡ sort_key (Some (expression terms (selection 0))) 1
 key_is =
-    checked_sort-out terms (roll-SortField least_first)
-    ∙ ap (λ (level : Opened SortField-F). sort_key (option_map (checked_expr terms) level.expr) level.direction) (out-roll-SortField least_first)
+    checked_sort-out terms key
+    ∙ ap (λ (level : Opened SortField-F). sort_key (option_map (checked_expr terms) level.expr) level.direction) out_key
     ∙ ap (λ one. sort_key (Some one) 1) (column_is 0)
 
 abbrev sort_of : List Ty → (Scope → Checking SortKey) → Result (Rel × Progress) Refusal
 sort_of columns key = (in_order (map (λ key. key (over 0 columns)) (key ∷ [])) >>= (λ keys. finished 0 None (ops.Sort typed.regions keys) columns)) (so_far 5 0)
 
-sorted_is : sort_of (columns_of typed.regions) (checked_sort terms (roll-SortField least_first)) ≡ Ok (typed.ordered_regions, so_far 5 1)
+sorted_is : sort_of (columns_of typed.regions) (checked_sort terms key) ≡ Ok (typed.ordered_regions, so_far 5 1)
 sorted_is = λ i. sort_of (regions_columns i) (key_is i)
 
 sorted_checked : checked_rel terms raw.ordered_regions 0 (so_far 1 0) ≡ Ok (typed.ordered_regions, so_far 5 1)
 sorted_checked =
-    ap (λ relation. relation 0 (so_far 1 0)) (checked_rel-Sort terms None (Some raw.regions) (roll-SortField least_first ∷ []))
+    ap (λ relation. relation 0 (so_far 1 0)) (checked_rel-Sort terms None (Some raw.regions) (key ∷ []))
     ∙ then_is (numbered (checked_rel terms raw.regions) (so_far 1 0)) _ typed.regions (so_far 5 0) (Ok (typed.ordered_regions, so_far 5 1)) (numbered_is (checked_rel terms raw.regions) typed.regions 1 0 5 3 regions_checked) sorted_is
 
 -- the whole plan, with three columns for three names

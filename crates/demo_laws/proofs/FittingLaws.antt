@@ -1,20 +1,17 @@
 -- The demo's plan reads back from its bytes: each of its messages has a form of its own, numbers in range and texts in UTF-8, from the
 -- leaves.
-use Rattle.std.proofs.Common.{◌≡◌, ◌<◌, ◌^◌, ℕ, zero, suc, pos, List, [], ◌∷◌, true, false, Option, Some, None, inl, refl, sym, subst, arith}
-use Rattle.std.specs.Prelude.{FitsSigned, codes}
+use Rattle.std.proofs.Common.{◌≡◌, ◌<◌, ◌^◌, ℕ, zero, suc, pos, List, [], ◌∷◌, true, false, Some, None, inl, refl, sym, subst, arith}
+use Rattle.std.proofs.lemmas.List.Elements.{All-nil, All-from_recursion}
+use Rattle.std.specs.Char.{encode_utf8}
 use Rattle.std.specs.Int.{w32}
 use Rattle.std.specs.List.{All, AllByRecursion}
+use Rattle.std.specs.Prelude.{FitsSigned, codes}
 use Rattle.std.specs.Str.{is_utf8, chars}
-use Rattle.std.specs.Char.{encode_utf8}
-use Rattle.std.proofs.lemmas.List.Elements.{All-nil, All-cons, All-from_recursion}
-use Rattle.plan_scan.specs.declared.shape.Shape.{Shape}
-use Rattle.plan_scan.specs.declared.shape.Shape.TheVariants as s
 use Rattle.plan_leaves.specs.declared.extensions.FunDecl.{FunDecl}
-use Rattle.plan_leaves.specs.declared.extensions.UriDecl.{UriDecl}
 use Rattle.plan_leaves.specs.declared.reference.StructField.{StructField}
 use Rattle.plan_leaves.specs.declared.types.RawType.{RawType, RawType-F, out-RawType}
 use Rattle.plan_leaves.specs.declared.types.RawType.TheVariants as t
-use Rattle.plan_raw.specs.declared.aggregate.AggregateFunction.{AggregateFunction-F, out-AggregateFunction}
+use Rattle.plan_raw.specs.declared.aggregate.AggregateFunction.{out-AggregateFunction}
 use Rattle.plan_raw.specs.declared.aggregate.Grouping.{Grouping-F, out-Grouping}
 use Rattle.plan_raw.specs.declared.aggregate.Measure.{Measure-F, out-Measure}
 use Rattle.plan_raw.specs.declared.aggregate.SortField.{SortField-F, out-SortField}
@@ -22,9 +19,11 @@ use Rattle.plan_raw.specs.declared.argument.FunctionArgument.{FunctionArgument-F
 use Rattle.plan_raw.specs.declared.expr.RawExpr.{RawExpr-F, out-RawExpr}
 use Rattle.plan_raw.specs.declared.plan.RootDecl.{RootDecl}
 use Rattle.plan_raw.specs.declared.rel.RawRel.{RawRel-F, out-RawRel}
-use Rattle.plan_raw.specs.declared.source.RawSource.{RawSource-F, out-RawSource}
+use Rattle.plan_raw.specs.declared.source.RawSource.{RawSource-F}
 use Rattle.plan_raw.specs.declared.source.RawSource.TheVariants as source
 use Rattle.plan_tree.specs.Fold.{Opened}
+use Rattle.plan_scan.specs.declared.shape.Shape.{Shape}
+use Rattle.plan_scan.specs.declared.shape.Shape.TheVariants as s
 use Rattle.plan_spell.specs.Exprs as exprs
 use Rattle.plan_spell.specs.Held.{Part, PackedUint32s, uint32, messages, message, unless_zero, unless_empty}
 use Rattle.plan_spell.specs.Known.{IsKnown, IsKnownRel, IsRead, IsAggregate, IsSort, IsJoin, IsKnownExpr, IsSelection, IsScalarFunction, IsKnownType}
@@ -34,8 +33,8 @@ use Rattle.plan_spell.specs.Parts.{parts_of}
 use Rattle.plan_spell.specs.Rels as rels
 use Rattle.plan_spell.specs.Spelled.{HasFitting, IsSpellableAt, IsSpellable}
 use Rattle.gen_data.specs.Plan as raw
-use Rattle.demo_laws.proofs.SpelledLaws.{plan_is_short}
 use Rattle.demo_laws.proofs.OpenedLaws.{out_whole, out_text, out_truth, segment, out_column, argument, both, out_argument, out_is_of_order, schema, named, out_source, out_table, out_join, grouping, by_region, out_grouping, function_of, function_level, out_function, measure_level, out_measure, out_regions, key, key_level, out_key, out_sorted}
+use Rattle.demo_laws.proofs.SpelledLaws.{plan_is_short}
 
 -- a message whose fields fit
 abbrev Fitting : ℕ → Shape → List Part → Type 0

@@ -9,11 +9,11 @@ use Rattle.plan_typed.specs.declared.rel.Op.TheVariants as ops
 use Rattle.plan_typed.specs.declared.rel.Rel.{Rel, Rel-F, roll-Rel, out-roll-Rel}
 use Rattle.plan_typed.specs.declared.rel.SortKey.{SortKey}
 use Rattle.plan_typed.specs.declared.rel.Source.TheVariants as sources
-use Rattle.plan_reads.specs.Reads.{read_of, reads_in, reads_of, by_relation}
-use Rattle.plan_reads.proofs.ReadLaws.{reads_of_op, of_op, of_Read, of_Join, of_Aggregate, of_Sort}
 use Rattle.plan_denote.specs.Sort.{arranged}
-use Rattle.gen_data.specs.Plan as raw
+use Rattle.plan_reads.proofs.ReadLaws.{reads_of_op, of_op, of_Read, of_Join, of_Aggregate, of_Sort}
+use Rattle.plan_reads.specs.Reads.{read_of, reads_in, reads_of, by_relation}
 use Rattle.gen_data.specs.Checked as typed
+use Rattle.gen_data.specs.Plan as raw
 use Rattle.gen_data.specs.Reads.{lines_read, orders_read}
 
 rolled : (number : ℕ) (op : Op) (emit : List ℕ) (columns : List Ty) → reads_in (roll-Rel (record { number = number; op = op; emit = emit; columns = columns })) ≡ reads_of_op op number

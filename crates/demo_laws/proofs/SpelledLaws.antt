@@ -1,16 +1,16 @@
 -- The bytes of the demo's plan, from the leaves, and that they are few.
 use Rattle.std.proofs.Common.{◌≡◌, ◌∙◌, ◌≤◌, ℕ, suc, pos, List, [], ◌∷◌, false, Some, None, length, ap, sym, subst, arith}
 use Rattle.std.specs.Prelude.{codes}
-use Rattle.pb_wire.specs.Payloads.{Field}
-use Rattle.pb_wire.specs.Records.{Varint, Bytes}
-use Rattle.pb_write.specs.Write.{varint_bytes, record_bytes, message_bytes}
-use Rattle.plan_scan.specs.declared.shape.Shape.TheVariants as s
 use Rattle.plan_leaves.specs.declared.types.RawType.{RawType}
 use Rattle.plan_leaves.specs.declared.types.RawType.TheVariants as t
 use Rattle.plan_raw.specs.declared.aggregate.Grouping.{Grouping-F}
 use Rattle.plan_raw.specs.declared.aggregate.Measure.{Measure-F}
 use Rattle.plan_raw.specs.declared.aggregate.SortField.{SortField-F}
 use Rattle.plan_tree.specs.Fold.{Opened}
+use Rattle.pb_wire.specs.Payloads.{Field}
+use Rattle.pb_wire.specs.Records.{Varint, Bytes}
+use Rattle.pb_write.specs.Write.{varint_bytes, record_bytes, message_bytes}
+use Rattle.plan_scan.specs.declared.shape.Shape.TheVariants as s
 use Rattle.plan_spell.specs.Exprs as exprs
 use Rattle.plan_spell.specs.Held.{messages, message, uint32, fields_by, PackedUint32s}
 use Rattle.plan_spell.specs.Leaves as leaves

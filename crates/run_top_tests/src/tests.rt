@@ -1,5 +1,6 @@
 // What runs over folders in memory report and refuse.
 mod answered;
+mod demo;
 mod files;
 mod plans;
 mod report;
