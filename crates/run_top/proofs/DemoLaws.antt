@@ -1,5 +1,5 @@
 -- The demo is done: its plan is accepted, its files are opened, and its rows are those that it denotes over its tables.
-use Rattle.std.proofs.Common.{◌≡◌, ◌∙◌, refl, sym, ap, subst, ℕ, ◌≤◌, ◌^◌, List, [], ◌∷◌, true, None, Option, Some, Result, Ok, Err, nat_le, length, map, codes, decimal, ◌↔◌, arith}
+use Rattle.std.proofs.Common.{◌≡◌, ◌∙◌, refl, sym, ap, subst, ℕ, ◌≤◌, ◌^◌, List, [], ◌∷◌, true, None, Option, Some, IsOkAnd, Result, Ok, Err, nat_le, length, map, codes, decimal, ◌↔◌, arith}
 use Rattle.std.proofs.lemmas.Bool.{le-leb}
 use Rattle.std.specs.FinMap.{get, insert, empty}
 use Rattle.std.specs.Option.{option_map, ok_or}
@@ -45,7 +45,7 @@ demo_run workers = record { plan = codes "plan"; out = codes "out"; workers = wo
 
 run_read : (workers : ℕ) → 1 ≤ workers → workers ≤ 64 → reading_of (demo_command workers) ≡ Some (demo_run workers)
 unfolding reading_of
-run_read workers some few = ap (option_map demo_run) (number_is 64 workers (decimal workers) (omega arith) (refl, (some, few)))
+run_read workers some few = ap (option_map demo_run) (number_is 64 workers (decimal workers) (omega arith) (refl, some, few))
 
 -- the plan reads back as it was written
 plan_read : tree_in (spelled demo_tree) ≡ Ok demo_tree
@@ -80,13 +80,13 @@ rows_are number opened few same = ap whole (denoted number opened same) ∙ ap (
 
 -- its read relations are opened
 reads_opened : (number : ℕ) → number ≤ MAX_NUMBER → (h : Opens number) → open_reads (demo_files number) demo_bindings (reads_of demo_plan) ≡ Ok h.0
-reads_opened number few h = ap (open_reads (demo_files number) demo_bindings) reads_are ∙ h.1.0
+reads_opened number few h = ap (open_reads (demo_files number) demo_bindings) reads_are ∙ h.1
 
 run_done : (number workers : ℕ) → number ≤ MAX_NUMBER → (h : Opens number) → done_in (demo_files number) (demo_run workers) demo_plan ≡ Ok (done_of (demo_run workers) demo_plan (map input_of h.0) (demo_rows number))
 unfolding done_in done_over done_with rows_over
 run_done number workers few h =
     let opened = reads_opened number few h in
-    let rows = rows_are number h.0 few h.1.1 in
+    let rows = rows_are number h.0 few h.2 in
     let within : nat_le (length (demo_rows number)) MAX_ROWS ≡ true = le-leb (length (demo_rows number)) MAX_ROWS (omega (arith, three_rows number few)) in
     rw (opened, rows, within) refl
 
@@ -107,7 +107,7 @@ pub demo_ran : (number workers : ℕ) (ran : Ran) → number ≤ MAX_NUMBER → 
 demo_ran number workers ran few some few_workers fits =
     let h = opens number few in
     let is = opened_found number workers (Ok ran) few h fits in
-    let same : ran.rows.items ≡ demo_rows number = let both = sym is.rows ∙ rows_are number h.0 few h.1.1 in cc in
+    let same : ran.rows.items ≡ demo_rows number = let both = sym is.rows ∙ rows_are number h.0 few h.2 in cc in
     record {
       rows = same;
       report = subst (λ found. IsOkAnd found (λ done. IsReport done (record { rows = length ran.rows.items; receipts = ran.receipts }))) (sym (is_done number workers few some few_workers h)) (record { rows = ap length same; receipts = is.receipts });
@@ -137,13 +137,13 @@ rows_unrefused number workers refusal few fits =
     by : (h : Opens number) (refusal : Status) → FitsRows (Ok h.0) demo_plan workers (Err refusal) → (refusal ≡ status.ReadFault → ⊥) → refusal ≡ status.NoMemory
     by h status.NoMemory is told = refl
     by h status.ReadFault is told = absurd (told refl)
-    by h (status.Ok report) is told = absurd (let both = sym is ∙ rows_are number h.0 few h.1.1 in cc)
-    by h status.Usage is told = absurd (let both = sym is ∙ rows_are number h.0 few h.1.1 in cc)
-    by h (status.PlanUnreadable place) is told = absurd (let both = sym is ∙ rows_are number h.0 few h.1.1 in cc)
-    by h (status.PlanRefused relation rule) is told = absurd (let both = sym is ∙ rows_are number h.0 few h.1.1 in cc)
-    by h (status.FileRefused file rule) is told = absurd (let both = sym is ∙ rows_are number h.0 few h.1.1 in cc)
-    by h (status.DataFault fault) is told = absurd (let both = sym is ∙ rows_are number h.0 few h.1.1 in cc)
-    by h status.WriteFault is told = absurd (let both = sym is ∙ rows_are number h.0 few h.1.1 in cc)
+    by h (status.Ok report) is told = absurd (let both = sym is ∙ rows_are number h.0 few h.2 in cc)
+    by h status.Usage is told = absurd (let both = sym is ∙ rows_are number h.0 few h.2 in cc)
+    by h (status.PlanUnreadable place) is told = absurd (let both = sym is ∙ rows_are number h.0 few h.2 in cc)
+    by h (status.PlanRefused relation rule) is told = absurd (let both = sym is ∙ rows_are number h.0 few h.2 in cc)
+    by h (status.FileRefused file rule) is told = absurd (let both = sym is ∙ rows_are number h.0 few h.2 in cc)
+    by h (status.DataFault fault) is told = absurd (let both = sym is ∙ rows_are number h.0 few h.2 in cc)
+    by h status.WriteFault is told = absurd (let both = sym is ∙ rows_are number h.0 few h.2 in cc)
 
 -- the answers of the demo, and when its words are faulty
 pub demo_named : (reading : Option DemoReading) (answered : Status) → IsDemoAnswer reading answered → IsDemoNamed answered

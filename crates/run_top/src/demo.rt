@@ -64,7 +64,6 @@ fn report_of(ran: Ran) -> Report
 }
 
 // The rows of the demo and the receipts of its run. A refusal can only be that there is no memory.
-#[tactic(auto, using(crate::proofs::DemoLaws::demo_refused, crate::proofs::DemoLaws::demo_ran))]
 fn run_demo(alloc: Global, reading: DemoReading) -> Result<Ran, Status>
     requires few { reading.number ≤ MAX_NUMBER }
     requires workers { 1 ≤ reading.workers }

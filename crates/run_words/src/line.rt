@@ -1,7 +1,8 @@
 // The line that is said of an answer, in pieces that are borrowed or lie in fixed buffers.
-ghost use Rattle.std.specs.Prelude.{◌≡◌, [], ◌∷◌, ◌++◌, IsTrue, decimal, codes};
+ghost use Rattle.std.specs.Prelude.{◌≡◌, [], ◌∷◌, ◌++◌, IsTrue, false, decimal, codes};
 ghost use Rattle.std.specs.Option.{option_map_or};
 ghost use Rattle.std.specs.List.{flat_map};
+ghost use Rattle.world.specs.Counts.{Rose};
 ghost use Rattle.world.specs.Notes.{said};
 ghost use Rattle.run_words.specs.Lines.{rule_words, file_rule_words, fault_words, told_text, line_of, check_line_of};
 ghost use Rattle.run_words.specs.Said.{IsSaid, words_seen};
@@ -127,6 +128,7 @@ fn say_three<'a, N: Notes>(
 pub fn say_pieces<N: Notes>(alloc: Global, notes: &mut N, pieces: &[&[u8]]) -> bool
     ensures said { IsSaid (N.text notes.old) (N.text notes.new) (N.failures notes.old) (N.failures notes.new) (flat_map (λ piece. piece.now) pieces.now) }
     ensures whole { IsTrue result → N.text notes.new ≡ said (N.text notes.old) (flat_map (λ piece. piece.now) pieces.now) }
+    ensures failed { result ≡ false → Rose (N.failures notes.old) (N.failures notes.new) }
 {
     for piece in pieces {
         let Ok(()) = notes.say(alloc, piece) else {
