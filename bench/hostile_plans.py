@@ -125,9 +125,9 @@ def references_to_columns(count):
 
 
 # How keys of grouping expressions are told apart (crates/plan_keys): the factor of their digests, and how many slots the
-# table of a million groups has.
+# table of a thousand groups has. More groups than columns are let go, so no table is larger.
 FACTOR = 0x9E3779B97F4A7C15F39CC0605CEDC835
-SLOTS = 2**23 - 1
+SLOTS = 2**14 - 1
 
 
 def of_one_slot(place):
@@ -149,6 +149,7 @@ PLANS = {
     "grouping expressions of 64 sets": lambda: groupings(64, 20_000, literal),
     "scattered grouping expressions of 64 sets": lambda: groupings(64, 17_000, lambda place: literal(place * 0x1E3779B97F4A7C15 % (1 << 62))),
     "grouping expressions of 64 sets whose keys have one slot": lambda: groupings(64, 13_500, of_one_slot),
+    "equal grouping expressions of 64 sets whose keys have one slot": lambda: groupings(64, 13_500, lambda place: of_one_slot(place % 1_000)),
     "equal grouping expressions of 64 sets": lambda: groupings(64, 20_000, lambda place: literal(place % 1_000)),
     "own grouping expressions": lambda: own_expressions(1_100_000),
     "999 relations of 1,024 columns": lambda: wide(960, 1_024),
