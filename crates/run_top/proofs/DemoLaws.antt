@@ -1,11 +1,13 @@
 -- The demo is done: its plan is accepted, its files are opened, and its rows are those that it denotes over its tables.
-use Rattle.std.proofs.Common.{◌≡◌, ◌∙◌, refl, sym, ap, subst, ℕ, ◌≤◌, ◌^◌, List, [], ◌∷◌, true, None, Option, Some, IsOkAnd, Result, Ok, Err, nat_le, length, map, codes, decimal, ◌↔◌, arith}
+use Rattle.std.proofs.Common.{◌≡◌, ◌∙◌, refl, sym, ap, subst, ℕ, ◌≤◌, ◌^◌, List, [], ◌∷◌, true, None, Option, Some, IsOkAnd, IfOk, IfErr, Result, Ok, Err, nat_le, length, map, codes, decimal, ◌↔◌, arith}
 use Rattle.std.proofs.lemmas.Bool.{le-leb}
 use Rattle.std.specs.FinMap.{get, insert, empty}
+use Rattle.std.specs.List.{flat_map}
 use Rattle.std.specs.Option.{option_map, ok_or}
 use Rattle.sub_types.specs.ResultSteps.{◌>>=◌}
 use Rattle.sub_types.specs.Stream.{Stream}
 use Rattle.sub_types.specs.declared.value.Value.{Value}
+use Rattle.world.specs.Counts.{Rose}
 use Rattle.world.specs.Files.{Files}
 use Rattle.plan_typed.specs.declared.sub.Holed.{Holed}
 use Rattle.plan_parts.specs.Reader.{plan_of}
@@ -17,6 +19,8 @@ use Rattle.plan_denote.specs.Subqueries.{denote_plan}
 use Rattle.plan_reads.specs.Reads.{reads_of}
 use Rattle.plan_tables.specs.Tables.{Opened, open_reads, tables_of}
 use Rattle.run_words.specs.Words.{Reading, DemoReading, reading_of}
+use Rattle.run_words.specs.Lines.{line_of}
+use Rattle.run_words.specs.declared.status.Report.{Report}
 use Rattle.run_words.specs.declared.status.Status.{Status}
 use Rattle.run_words.specs.declared.status.Status.TheVariants as status
 use Rattle.run_words.proofs.NumberLaws.{number_is}
@@ -28,7 +32,7 @@ use Rattle.gen_data.specs.Plan.{demo_tree}
 use Rattle.gen_data.specs.Checked.{demo_plan}
 use Rattle.gen_data.specs.Reads.{lines_read, orders_read}
 use Rattle.gen_data.specs.Files.{orders_file, lines_file, demo_files, demo_bindings}
-use Rattle.gen_data.specs.Summary.{demo_tables, demo_rows}
+use Rattle.gen_data.specs.Summary.{demo_tables, demo_rows, row_line, summary_of}
 use Rattle.demo_laws.proofs.AcceptedLaws.{accepted}
 use Rattle.demo_laws.proofs.ReadsLaws.{reads_are}
 use Rattle.demo_laws.proofs.SpelledLaws.{plan_is_short}
@@ -37,7 +41,7 @@ use Rattle.demo_laws.proofs.FilesOpened.{Opens, opens, plan_there}
 use Rattle.demo_laws.proofs.DemoLevels.{denotes_over, demo_over}
 use Rattle.demo_laws.proofs.DemoRowLaws.{demo_clean}
 use Rattle.run_top.specs.Answer.{MAX_PLAN, tree_in, flawless, judged, accepted_in, accepted_at, answer, IsRefusalOf}
-use Rattle.run_top.specs.Demo.{demo_command, IsDemoReport, IsDemoAnswer, IsDemoNamed}
+use Rattle.run_top.specs.Demo.{demo_command, IsDemoReport, IsDemoRan, IsDemoAnswer, IsDemoNamed, demo_text_of}
 
 -- the words of the demo's run are read
 abbrev demo_run : ℕ → Reading
@@ -93,11 +97,6 @@ run_done number workers few h =
 is_done : (number workers : ℕ) → number ≤ MAX_NUMBER → 1 ≤ workers → workers ≤ 64 → (h : Opens number) → answer (demo_command workers) (demo_files number) ≡ Ok (done_of (demo_run workers) demo_plan (map input_of h.0) (demo_rows number))
 unfolding answer
 is_done number workers few some few_workers h = rw (run_read workers some few_workers, plan_accepted number, run_done number workers few h) refl
-
--- What comes of the demo's run: its rows, with a report of it.
-pub record IsDemoRan (number workers : ℕ) (ran : Ran) : Type 0 where
-  pub rows : ran.rows.items ≡ demo_rows number
-  pub report : IsDemoReport (record { number = number; workers = workers }) (record { rows = length ran.rows.items; receipts = ran.receipts })
 
 opened_found : (number workers : ℕ) (found : Result Ran Status) → number ≤ MAX_NUMBER → (h : Opens number) → FitsRows (open_reads (demo_files number) demo_bindings (reads_of demo_plan)) demo_plan workers found → FitsRows (Ok h.0) demo_plan workers found
 opened_found number workers found few h fits = subst (λ opened. FitsRows opened demo_plan workers found) (reads_opened number few h) fits
@@ -172,3 +171,45 @@ not_usage reading status.WriteFault is usage = cc
 pub demo_usage : (reading : Option DemoReading) (answered : Status) → IsDemoAnswer reading answered → (answered ≡ status.Usage) ↔ (reading ≡ None)
 demo_usage None answered is = (λ _. refl, λ _. is)
 demo_usage (Some reading) answered is = (λ usage. absurd (not_usage reading answered is usage), λ none. absurd (cc))
+
+-- a count that is always 0 never rises
+pub no_rise : Rose 0 0 → ⊥
+no_rise rose = omega (arith, rose)
+
+-- what comes of the plan, and of its files and rows
+pub plan_or_memory : {A : Type 0} (r : Result A Status) (number : ℕ) → IfErr r (IsRefusalOf (accepted_at (demo_files number) (codes "plan"))) → (r ≡ Err status.ReadFault → ⊥) → IfErr r (λ refusal. refusal ≡ status.NoMemory)
+plan_or_memory (Ok x) number is told = tt
+plan_or_memory (Err refusal) number is told = plan_unrefused number refusal is (λ same. told (ap Err same))
+
+abbrev Comes : ℕ → ℕ → List (List ℕ) → Holed → Result Ran Status → Type 0
+Comes number workers words plan r = FitsRows (open_reads (demo_files number) words (reads_of plan)) plan workers r
+
+of_demo : (number workers : ℕ) (words : List (List ℕ)) (plan : Holed) (r : Result Ran Status) → words ≡ demo_bindings → plan ≡ demo_plan → Comes number workers words plan r → Comes number workers demo_bindings demo_plan r
+of_demo number workers words plan r bound is comes = subst (λ one. Comes number workers demo_bindings one r) is (subst (λ bindings. Comes number workers bindings plan r) bound comes)
+
+pub ran_or_refused : (number workers : ℕ) (words : List (List ℕ)) (plan : Holed) (r : Result Ran Status) → number ≤ MAX_NUMBER → 1 ≤ workers → workers ≤ 64 → words ≡ demo_bindings → plan ≡ demo_plan
+    → FitsRows (open_reads (demo_files number) words (reads_of plan)) plan workers r → IfOk r (IsDemoRan number workers)
+ran_or_refused number workers words plan (Ok ran) few some few_workers bound is comes = demo_ran number workers ran few some few_workers (of_demo number workers words plan (Ok ran) bound is comes)
+ran_or_refused number workers words plan (Err refusal) few some few_workers bound is comes = tt
+
+pub rows_or_memory : (number workers : ℕ) (words : List (List ℕ)) (plan : Holed) (r : Result Ran Status) → number ≤ MAX_NUMBER → words ≡ demo_bindings → plan ≡ demo_plan
+    → FitsRows (open_reads (demo_files number) words (reads_of plan)) plan workers r → (r ≡ Err status.ReadFault → ⊥) → IfErr r (λ refusal. refusal ≡ status.NoMemory)
+rows_or_memory number workers words plan (Ok ran) few bound is comes told = tt
+rows_or_memory number workers words plan (Err refusal) few bound is comes told = rows_unrefused number workers refusal few (of_demo number workers words plan (Err refusal) bound is comes) (λ same. told (ap Err same))
+
+-- what is said of the demo's answers
+pub usage_text : (reading : Option DemoReading) → reading ≡ None → line_of status.Usage ≡ demo_text_of reading status.Usage
+unfolding demo_text_of
+usage_text reading none = sym (ap (λ one. demo_text_of one status.Usage) none)
+
+pub memory_text : (reading : Option DemoReading) (refusal : Status) → refusal ≡ status.NoMemory → line_of refusal ≡ demo_text_of reading refusal
+unfolding demo_text_of
+memory_text reading refusal is = subst (λ one. line_of one ≡ demo_text_of reading one) (sym is) (by reading)
+  where
+    by : (reading : Option DemoReading) → line_of status.NoMemory ≡ demo_text_of reading status.NoMemory
+    by None = refl
+    by (Some one) = refl
+
+pub summary_text : (reading : Option DemoReading) (one : DemoReading) (rows : List (List Value)) (report : Report) → reading ≡ Some one → rows ≡ demo_rows one.number → flat_map row_line rows ≡ demo_text_of reading (status.Ok report)
+unfolding demo_text_of summary_of
+summary_text reading one rows report is same = ap (λ xs. flat_map row_line xs) same ∙ sym (ap (λ found. demo_text_of found (status.Ok report)) is)

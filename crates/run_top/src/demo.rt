@@ -1,17 +1,19 @@
 // The command `demo`.
-ghost use Rattle.std.specs.Prelude.{◌≡◌, ◌≤◌, [], length, Some, IfOk, IfErr};
+ghost use Rattle.std.specs.Prelude.{◌≡◌, ◌≤◌, ℕ, length, IfOk, IfErr};
 ghost use Rattle.run_words.specs.Words.{demo_of};
-ghost use Rattle.run_words.specs.ReadingSeen.{demo_seen};
 ghost use Rattle.run_words.specs.Said.{IsSaid};
 ghost use Rattle.gen_data.specs.Rows.{MAX_NUMBER};
 ghost use Rattle.gen_data.specs.Files as spec;
-ghost use Rattle.gen_data.specs.Summary.{demo_rows};
-ghost use Rattle.run_top.specs.Demo.{IsDemoAnswer, IsDemoReport, demo_text_of};
+ghost use Rattle.gen_data.specs.Files.{demo_files};
+ghost use Rattle.gen_data.specs.Checked.{demo_plan};
+ghost use Rattle.run_accepted.specs.Done.{IsAccepted};
+ghost use Rattle.run_top.specs.Demo.{IsDemoAnswer, IsDemoRan, demo_text_of};
 
 use crate::accepted::accepted_plan;
 use crate::summary::say_summary;
 use gen_data::demo_folder;
 use plan_leaves::zip;
+use plan_typed::Holed;
 use run_accepted::{Ran, rows_of_plan};
 use run_words::{DemoReading, Report, Status, read_demo, say_line};
 use std::alloc::Global;
@@ -19,7 +21,7 @@ use std::marker::Sync;
 use std::sync::Wait;
 use std::thread::Threads;
 use sub_types::{NoMemory, Word};
-use world::{Gate, Notes};
+use world::{Gate, Notes, SureFolder};
 
 /// Runs the demo's plan over tables of its own, in memory: `demo NUMBER WORKERS`, with so many orders. It says the summary of its
 /// rows to the notes, a line for each region.
@@ -68,8 +70,7 @@ fn run_demo(alloc: Global, reading: DemoReading) -> Result<Ran, Status>
     requires few { reading.number ≤ MAX_NUMBER }
     requires workers { 1 ≤ reading.workers }
     requires few_workers { reading.workers ≤ 64 }
-    ensures rows { IfOk result (λ ran. ran.rows.items ≡ demo_rows reading.number) }
-    ensures report { IfOk result (λ ran. IsDemoReport (demo_seen reading) (record { rows = length ran.rows.items; receipts = ran.receipts })) }
+    ensures ran { IfOk result (IsDemoRan reading.number reading.workers) }
     ensures memory { IfErr result (λ refusal. refusal ≡ Status.NoMemory) }
 {
     let (mut folder, bindings) = match zip(
@@ -79,8 +80,41 @@ fn run_demo(alloc: Global, reading: DemoReading) -> Result<Ran, Status>
         Ok(both) => both,
         Err(NoMemory) => return Err(Status::NoMemory),
     };
-    let plan = accepted_plan(alloc, &mut folder, "plan")?;
-    rows_of_plan(alloc, &mut folder, &bindings, reading.workers, &plan)
+    match plan_of_demo(alloc, &mut folder) {
+        Ok(plan) => rows_of_demo(alloc, &mut folder, &bindings, reading, &plan),
+        Err(refusal) => Err(refusal),
+    }
+}
+
+// The checked plan of the demo's folder.
+fn plan_of_demo(alloc: Global, folder: &mut SureFolder) -> Result<Holed, Status>
+    ensures plan { (number : ℕ) → folder.old.files ≡ demo_files number → IfOk result (λ plan. plan ≡ demo_plan) }
+    ensures accepted { IfOk result IsAccepted }
+    ensures memory { (number : ℕ) → folder.old.files ≡ demo_files number → IfErr result (λ refusal. refusal ≡ Status.NoMemory) }
+    ensures kept { folder.new.files ≡ folder.old.files }
+{
+    accepted_plan(alloc, folder, "plan")
+}
+
+// The rows of the demo's plan over its folder.
+fn rows_of_demo(
+    alloc: Global,
+    folder: &mut SureFolder,
+    bindings: &[Word],
+    reading: DemoReading,
+    plan: &Holed,
+) -> Result<Ran, Status>
+    requires few { reading.number ≤ MAX_NUMBER }
+    requires workers { 1 ≤ reading.workers }
+    requires few_workers { reading.workers ≤ 64 }
+    requires files { folder.old.files ≡ demo_files reading.number }
+    requires bindings { bindings.now ≡ spec.demo_bindings }
+    requires accepted { IsAccepted plan.now }
+    requires plan { plan.now ≡ demo_plan }
+    ensures ran { IfOk result (IsDemoRan reading.number reading.workers) }
+    ensures memory { IfErr result (λ refusal. refusal ≡ Status.NoMemory) }
+{
+    rows_of_plan(alloc, folder, bindings, reading.workers, plan)
 }
 
 // The words that bind the names of the tables to their files.

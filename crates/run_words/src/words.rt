@@ -100,7 +100,7 @@ pub fn read_check(words: &[Word]) -> Option<&str>
 pub fn read_demo(words: &[Word]) -> Option<DemoReading>
     ensures reading { option_map demo_seen result ≡ demo_of words.now }
     ensures number { IfSome result (λ reading. (1 ≤ reading.number) × (reading.number ≤ MAX_ORDERS)) }
-    ensures workers { IfSome result (λ reading. 1 ≤ reading.workers) }
+    ensures workers { IfSome result (λ reading. (1 ≤ reading.workers) × (reading.workers ≤ 64)) }
 {
     let [command, orders, seats] = words else {
         return None;
