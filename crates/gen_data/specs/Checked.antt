@@ -1,6 +1,5 @@
 -- The demo's plan as it is checked.
-use Rattle.std.specs.Prelude.{ℕ, List, [], ◌∷◌, Bool, true, false, Some, None, codes}
-use Rattle.sub_types.specs.declared.kind.Kind.{Kind}
+use Rattle.std.specs.Prelude.{ℕ, List, [], ◌∷◌, true, false, Some, None, codes}
 use Rattle.sub_types.specs.declared.kind.Kind.TheVariants as kinds
 use Rattle.sub_types.specs.declared.kind.Ty.{Ty}
 use Rattle.plan_typed.specs.declared.expr.Expr.{Expr}
@@ -8,7 +7,6 @@ use Rattle.plan_typed.specs.declared.expr.Expr.TheVariants as e
 use Rattle.plan_typed.specs.declared.expr.Func.TheVariants as funcs
 use Rattle.plan_typed.specs.declared.expr.Overflow.TheVariants as modes
 use Rattle.plan_typed.specs.declared.rel.JoinKind.TheVariants as joins
-use Rattle.plan_typed.specs.declared.rel.Op.{Op}
 use Rattle.plan_typed.specs.declared.rel.Op.TheVariants as ops
 use Rattle.plan_typed.specs.declared.rel.Rel.{Rel, roll-Rel}
 use Rattle.plan_typed.specs.declared.rel.Source.TheVariants as sources

@@ -1,20 +1,18 @@
 -- The demo's plan as it is written: the lines joined to their orders, the quantities of each region summed and counted, and the
 -- regions in order.
-use Rattle.std.specs.Prelude.{ℕ, pos, List, [], ◌∷◌, ◌++◌, true, false, Option, Some, None, codes}
+use Rattle.std.specs.Prelude.{ℕ, pos, List, [], ◌∷◌, ◌++◌, true, false, Some, None, codes}
 use Rattle.plan_leaves.specs.declared.extensions.FunDecl.{FunDecl}
 use Rattle.plan_leaves.specs.declared.extensions.UriDecl.{UriDecl}
 use Rattle.plan_leaves.specs.declared.types.RawType.{RawType}
 use Rattle.plan_leaves.specs.declared.types.RawType.TheVariants as t
-use Rattle.plan_raw.specs.declared.aggregate.AggregateFunction.{AggregateFunction, roll-AggregateFunction}
+use Rattle.plan_raw.specs.declared.aggregate.AggregateFunction.{roll-AggregateFunction}
 use Rattle.plan_raw.specs.declared.aggregate.Grouping.{Grouping, roll-Grouping}
 use Rattle.plan_raw.specs.declared.aggregate.Measure.{Measure, roll-Measure}
 use Rattle.plan_raw.specs.declared.aggregate.SortField.{SortField, roll-SortField}
-use Rattle.plan_raw.specs.declared.argument.FunctionArgument.{FunctionArgument}
 use Rattle.plan_raw.specs.declared.argument.FunctionArgument.TheVariants as a
 use Rattle.plan_raw.specs.declared.expr.RawExpr.{RawExpr}
 use Rattle.plan_raw.specs.declared.expr.RawExpr.TheVariants as e
 use Rattle.plan_raw.specs.declared.plan.PlanTree.{PlanTree}
-use Rattle.plan_raw.specs.declared.plan.RootDecl.{RootDecl}
 use Rattle.plan_raw.specs.declared.rel.RawRel.{RawRel}
 use Rattle.plan_raw.specs.declared.rel.RawRel.TheVariants as r
 use Rattle.plan_raw.specs.declared.source.RawSource.TheVariants as source

@@ -1,11 +1,10 @@
 -- What is known of an accepted plan.
-use Rattle.std.proofs.Common.{◌≡◌, ◌∙◌, ◌≤◌, ℕ, suc, List, [], ◌∷◌, Option, Some, None, map, length, slice_get, refl, sym, ap, subst, true, arith}
-use Rattle.std.specs.List.{All, AllByRecursion, AllZip, filter_map, cons_option}
+use Rattle.std.proofs.Common.{◌≡◌, ◌≤◌, ℕ, suc, List, [], ◌∷◌, Option, Some, None, length, slice_get, refl, sym, ap, subst, true, arith}
+use Rattle.std.specs.List.{All, AllZip, filter_map, cons_option}
 use Rattle.std.proofs.lemmas.List.Elements.{All-from_recursion, All-weaker}
 use Rattle.sub_types.specs.Kind.{IsKind}
 use Rattle.sub_types.specs.Value.{Fits}
 use Rattle.sub_types.specs.declared.kind.Ty.{Ty}
-use Rattle.sub_types.specs.declared.value.Value.{Value}
 use Rattle.plan_typed.specs.declared.rel.Op.{Op, out-Op}
 use Rattle.plan_typed.specs.declared.rel.Op.TheOpen.{Op-F}
 use Rattle.plan_typed.specs.declared.rel.Rel.{Rel, out-Rel, every_here-Rel}

@@ -1,5 +1,5 @@
 -- What is done over tables, once what the plan denotes over them is known.
-use Rattle.std.proofs.Common.{◌≡◌, ◌∙◌, ◌<◌, ◌+◌, ℕ, List, [], ◌∷◌, ◌++◌, Option, Some, None, Result, Ok, Err, take, get_or, map, length, refl, sym, ap, subst}
+use Rattle.std.proofs.Common.{◌≡◌, ◌∙◌, ◌<◌, ◌+◌, ℕ, List, [], ◌∷◌, ◌++◌, Option, Some, None, Ok, Err, take, get_or, map, length, refl, sym, ap, subst}
 use Rattle.std.specs.List.{AllZip}
 use Rattle.std.proofs.lemmas.List.{map_push, take_more}
 use Rattle.sub_types.specs.ResultSteps.{◌>>=◌}
@@ -14,7 +14,6 @@ use Rattle.row_engine.specs.declared.tables.Table.{Table}
 use Rattle.row_engine.specs.Tables.{tables_seen}
 use Rattle.run_laws.proofs.RunLaws.{denote_in_memory}
 use Rattle.run_words.specs.Words.{Reading}
-use Rattle.run_words.specs.declared.status.Status.{Status}
 use Rattle.run_words.specs.declared.status.Status.TheVariants as status
 use Rattle.run_accepted.specs.Done.{IsAccepted, input_of, whole, rows_over, done_with, done_over}
 use Rattle.run_accepted.proofs.AcceptedLaws.{accepted_typed}

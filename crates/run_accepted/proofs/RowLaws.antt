@@ -1,5 +1,5 @@
 -- The rows of batches, counted, and a plan with too many.
-use Rattle.std.proofs.Common.{◌≡◌, ◌<◌, ◌≤◌, refl, sym, subst, ap, ◌∙◌, ℕ, ◌^◌, List, [], ◌∷◌, length, length-append, arith, Ok, Err, true, false, nat_le}
+use Rattle.std.proofs.Common.{◌≡◌, ◌<◌, ◌≤◌, refl, subst, ℕ, ◌^◌, List, [], ◌∷◌, length, length-append, arith, Ok, Err, true, false, nat_le}
 use Rattle.std.proofs.lemmas.Bool.{le-leb, lt-leb}
 use Rattle.std.specs.List.{flat_map, sum_by}
 use Rattle.std.proofs.lemmas.List.Sums.{sum_by-cons}

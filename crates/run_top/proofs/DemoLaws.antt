@@ -1,19 +1,15 @@
 -- The demo is done: its plan is accepted, its files are opened, and its rows are those that it denotes over its tables.
-use Rattle.std.proofs.Common.{◌≡◌, ◌∙◌, refl, sym, ap, subst, ℕ, ◌≤◌, ◌^◌, List, [], ◌∷◌, true, None, Option, Some, IsOkAnd, IfOk, IfErr, Result, Ok, Err, nat_le, length, map, codes, decimal, ◌↔◌, arith}
+use Rattle.std.proofs.Common.{◌≡◌, ◌∙◌, refl, sym, ap, subst, ℕ, ◌≤◌, List, true, None, Option, Some, IsOkAnd, IfOk, IfErr, Result, Ok, Err, nat_le, length, map, codes, decimal, ◌↔◌, arith}
 use Rattle.std.proofs.lemmas.Bool.{le-leb}
-use Rattle.std.specs.FinMap.{get, insert, empty}
 use Rattle.std.specs.List.{flat_map}
-use Rattle.std.specs.Option.{option_map, ok_or}
-use Rattle.sub_types.specs.ResultSteps.{◌>>=◌}
+use Rattle.std.specs.Option.{option_map}
 use Rattle.sub_types.specs.Stream.{Stream}
 use Rattle.sub_types.specs.declared.value.Value.{Value}
 use Rattle.world.specs.Counts.{Rose}
-use Rattle.world.specs.Files.{Files}
 use Rattle.plan_typed.specs.declared.sub.Holed.{Holed}
 use Rattle.plan_parts.specs.Reader.{plan_of}
-use Rattle.plan_spell.specs.Spelled.{spelled, IsSpellable}
+use Rattle.plan_spell.specs.Spelled.{spelled}
 use Rattle.plan_spell.proofs.SpellLaws.{read_back}
-use Rattle.plan_verdict.specs.Verdict.{verdict}
 use Rattle.plan_denote.specs.Denote.{Tables}
 use Rattle.plan_denote.specs.Subqueries.{denote_plan}
 use Rattle.plan_reads.specs.Reads.{reads_of}
@@ -24,24 +20,23 @@ use Rattle.run_words.specs.declared.status.Report.{Report}
 use Rattle.run_words.specs.declared.status.Status.{Status}
 use Rattle.run_words.specs.declared.status.Status.TheVariants as status
 use Rattle.run_words.proofs.NumberLaws.{number_is}
-use Rattle.run_accepted.specs.Done.{Done, MAX_ROWS, input_of, whole, unrefused, rows_over, done_of, done_with, done_over, done_in}
-use Rattle.run_accepted.specs.Fits.{IsReport, IsRan, FitsRows}
+use Rattle.run_accepted.specs.Done.{MAX_ROWS, input_of, whole, rows_over, done_of, done_with, done_over, done_in}
+use Rattle.run_accepted.specs.Fits.{IsReport, FitsRows}
 use Rattle.run_accepted.specs.declared.rows.Ran.{Ran}
 use Rattle.gen_data.specs.Rows.{MAX_NUMBER}
 use Rattle.gen_data.specs.Plan.{demo_tree}
 use Rattle.gen_data.specs.Checked.{demo_plan}
-use Rattle.gen_data.specs.Reads.{lines_read, orders_read}
-use Rattle.gen_data.specs.Files.{orders_file, lines_file, demo_files, demo_bindings}
+use Rattle.gen_data.specs.Files.{demo_files, demo_bindings}
 use Rattle.gen_data.specs.Summary.{demo_tables, demo_rows, row_line, summary_of}
 use Rattle.demo_laws.proofs.AcceptedLaws.{accepted}
 use Rattle.demo_laws.proofs.ReadsLaws.{reads_are}
 use Rattle.demo_laws.proofs.SpelledLaws.{plan_is_short}
 use Rattle.demo_laws.proofs.FittingLaws.{plan_is_spellable}
 use Rattle.demo_laws.proofs.FilesOpened.{Opens, opens, plan_there}
-use Rattle.demo_laws.proofs.DemoLevels.{denotes_over, demo_over}
+use Rattle.demo_laws.proofs.DemoLevels.{denotes_over}
 use Rattle.demo_laws.proofs.DemoRowLaws.{demo_clean}
-use Rattle.run_top.specs.Answer.{MAX_PLAN, tree_in, flawless, judged, accepted_in, accepted_at, answer, IsRefusalOf}
-use Rattle.run_top.specs.Demo.{demo_command, IsDemoReport, IsDemoRan, IsDemoAnswer, IsDemoNamed, demo_text_of}
+use Rattle.run_top.specs.Answer.{MAX_PLAN, tree_in, accepted_in, accepted_at, answer, IsRefusalOf}
+use Rattle.run_top.specs.Demo.{demo_command, IsDemoRan, IsDemoAnswer, IsDemoNamed, demo_text_of}
 
 -- the words of the demo's run are read
 abbrev demo_run : ℕ → Reading

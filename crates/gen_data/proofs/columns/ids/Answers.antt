@@ -1,6 +1,5 @@
-use Rattle.std.proofs.Common.{rules, arith, ◌≡◌, ◌∙◌, refl, ap, pos, map}
+use Rattle.std.proofs.Common.{rules, arith, ◌∙◌, pos}
 use Rattle.sub_types.specs.declared.value.Value.TheVariants as values
-use Rattle.gen_data.specs.Rows.{region_of, order_of, quantity_of}
 use Rattle.gen_data.proofs.ColumnLaws.{one_more}
 use Rattle.gen_data.proofs.columns.ids.Goals as goal
 

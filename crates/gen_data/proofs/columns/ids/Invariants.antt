@@ -1,8 +1,7 @@
 use Rattle.std.proofs.Common.{◌≡◌, pos, map}
 use Rattle.std.specs.List.{range_with_len}
 use Rattle.sub_types.specs.declared.value.Value.TheVariants as values
-use Rattle.gen_data.specs.Rows.{region_of, order_of, quantity_of}
-use Rattle.gen_data.specs.Checked.{whole_type, text_type}
+use Rattle.gen_data.specs.Checked.{whole_type}
 use Rattle.gen_data.proofs.columns.ids.Given as goal
 
 -- the values so far

@@ -1,10 +1,10 @@
-use Rattle.std.proofs.Common.{rules, ◌≡◌, ◌∙◌, sym, subst, refl, ap, pos, map}
+use Rattle.std.proofs.Common.{◌∙◌, sym, subst, ap}
 use Rattle.std.specs.Str.{IsUtf8}
 use Rattle.sub_types.specs.declared.kind.Ty.{Ty}
 use Rattle.sub_types.specs.Value.{InKind}
 use Rattle.gen_data.proofs.RegionLaws.{region-utf8}
 use Rattle.sub_types.specs.declared.value.Value.TheVariants as values
-use Rattle.gen_data.specs.Rows.{region_of, order_of, quantity_of}
+use Rattle.gen_data.specs.Rows.{region_of}
 use Rattle.gen_data.proofs.ColumnLaws.{one_more}
 use Rattle.gen_data.proofs.columns.regions.Goals as goal
 

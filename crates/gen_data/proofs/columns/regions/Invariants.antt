@@ -1,8 +1,8 @@
-use Rattle.std.proofs.Common.{◌≡◌, pos, map}
+use Rattle.std.proofs.Common.{◌≡◌, map}
 use Rattle.std.specs.List.{range_with_len}
 use Rattle.sub_types.specs.declared.value.Value.TheVariants as values
-use Rattle.gen_data.specs.Rows.{region_of, order_of, quantity_of}
-use Rattle.gen_data.specs.Checked.{whole_type, text_type}
+use Rattle.gen_data.specs.Rows.{region_of}
+use Rattle.gen_data.specs.Checked.{text_type}
 use Rattle.gen_data.proofs.columns.regions.Given as goal
 
 -- the values so far

@@ -1,4 +1,4 @@
-use Rattle.std.proofs.Common.{◌≡◌, ◌∙◌, ap, sym, subst, map}
+use Rattle.std.proofs.Common.{◌∙◌, ap, sym, subst, map}
 use Rattle.std.specs.List.{AllZip}
 use Rattle.std.proofs.lemmas.Simd.{map-map}
 use Rattle.plan_tables.specs.Open.{open_seen}

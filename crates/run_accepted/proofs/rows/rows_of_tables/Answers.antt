@@ -1,4 +1,4 @@
-use Rattle.std.proofs.Common.{◌≡◌, ◌∙◌, Ok, Some, None, ap, sym, refl, rules}
+use Rattle.std.proofs.Common.{◌∙◌, Ok, ap, sym}
 use Rattle.row_steps.specs.Seen.{seen}
 use Rattle.run_accepted.proofs.DoneLaws.{ran_fault, ran_rows}
 use Rattle.run_accepted.proofs.rows.rows_of_tables.Goals as goal

@@ -1,8 +1,7 @@
-use Rattle.std.proofs.Common.{◌≡◌, ◌∙◌, ap, sym, subst, map}
+use Rattle.std.proofs.Common.{◌∙◌, ap, sym, subst, map}
 use Rattle.std.specs.List.{AllZip}
 use Rattle.std.proofs.lemmas.Simd.{map-map}
 use Rattle.plan_tables.specs.Open.{open_seen}
-use Rattle.plan_tables.specs.Tables.{tested_tables}
 use Rattle.row_engine.specs.Tables.{tables_seen}
 use Rattle.run_words.specs.ReadingSeen.{reading_seen}
 use Rattle.run_accepted.specs.Done.{done_over, input_of}

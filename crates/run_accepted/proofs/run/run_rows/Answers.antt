@@ -1,4 +1,4 @@
-use Rattle.std.proofs.Common.{◌≡◌, ◌∙◌, Some, None, ap, sym, subst, refl, map, rules}
+use Rattle.std.proofs.Common.{◌∙◌, ap, sym, subst, refl, map}
 use Rattle.run_accepted.specs.Done.{done_with, input_of}
 use Rattle.run_accepted.specs.Fits.{FitsFiles}
 use Rattle.row_steps.specs.Seen.{seen}

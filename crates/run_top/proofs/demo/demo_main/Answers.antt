@@ -1,15 +1,7 @@
-use Rattle.std.proofs.Common.{◌≡◌, ◌∙◌, Option, Some, None, List, ℕ, ap, sym, subst, refl, rules}
-use Rattle.std.specs.Option.{option_map}
-use Rattle.std.specs.List.{flat_map}
-use Rattle.sub_types.specs.declared.value.Value.{Value}
-use Rattle.run_words.specs.Said.{IsSaid}
-use Rattle.run_words.specs.Words.{DemoReading, demo_of}
+use Rattle.std.proofs.Common.{rules}
+use Rattle.run_words.specs.Words.{demo_of}
 use Rattle.run_words.specs.ReadingSeen.{demo_seen}
-use Rattle.run_words.specs.declared.status.Status.{Status}
-use Rattle.run_words.specs.declared.status.Status.TheVariants as status
-use Rattle.gen_data.specs.Summary.{row_line}
 use Rattle.run_words.proofs.SaidLaws.{said_same}
-use Rattle.run_top.specs.Demo.{demo_text_of}
 use Rattle.run_top.proofs.DemoLaws.{summary_text, memory_text, usage_text}
 use Rattle.run_top.proofs.demo.demo_main.Goals as goal
 

@@ -1,4 +1,4 @@
-use Rattle.std.proofs.Common.{◌≡◌, ◌∙◌, List, ap, sym, refl, rules, arith, inl, inr, take}
+use Rattle.std.proofs.Common.{◌∙◌, List, ap, sym, rules, arith, inr, take}
 use Rattle.sub_types.specs.declared.value.Value.{Value}
 use Rattle.world.specs.Notes.{said}
 use Rattle.gen_data.specs.Summary.{row_line}
