@@ -35,20 +35,21 @@ fn demo<H: Threads + Wait + Sync>(
 }
 
 // The sums and the numbers of quantities of the three regions, by a plain loop over the lines.
-fn totals(number: u64) -> [(u64, u64); 3] {
-    let mut totals = [(0, 0); 3];
+fn totals(orders: u32) -> [(u64, u64); 3] {
+    let number = u64::from(orders);
+    let mut totals = [(0_u64, 0_u64); 3];
     for line in 0..4 * number {
         let order = 7 * line % (number + 1);
         if order < number && line % 11 != 10 {
             let region = (order % 3) as usize;
             let (sum, count) = totals[region];
-            totals[region] = (sum + line % 10, count + 1);
+            totals[region] = (sum.wrapping_add(line % 10), count.wrapping_add(1));
         }
     }
     totals
 }
 
-fn lines(alloc: Global, number: u64) -> Result<String, Fail> {
+fn lines(alloc: Global, number: u32) -> Result<String, Fail> {
     let mut text = String::new(alloc);
     let [first, second, third] = totals(number);
     write!(text, "r0 {} {}\n", first.0, first.1)?;
