@@ -1,7 +1,8 @@
 -- Messages that are written from the last record to the first.
-use Rattle.std.proofs.Common.{◌≡◌, ◌∙◌, sym, ap, refl, subst, ℕ, zero, suc, ◌+◌, ◌-◌, ◌<◌, ◌≤◌, ℤ, pos, negsuc, List, [], ◌∷◌, ◌++◌, map, Bool, true, false, if◌then◌else◌, drop, get_or, length, arith, drop-cons, length-map, append_assoc, append-nil}
+use Rattle.std.proofs.Common.{◌≡◌, ◌∙◌, sym, ap, refl, subst, ℕ, zero, suc, ◌+◌, ◌-◌, ◌<◌, ◌≤◌, ℤ, pos, negsuc, List, [], ◌∷◌, ◌++◌, map, Result, Ok, Err, OnOk, Bool, true, false, if◌then◌else◌, drop, get_or, length, arith, drop-cons, append_assoc, append-nil}
 use Rattle.std.specs.List.{flat_map}
 use Rattle.std.proofs.lemmas.Grind.{flat_map-append}
+use Rattle.std.proofs.lemmas.List.{length-map}
 use Rattle.pb_wire.specs.Records.{Varint, Bytes}
 use Rattle.pb_wire.specs.Payloads.{Field}
 use Rattle.pb_write.specs.Write.{varint_bytes, record_bytes, message_bytes, packed_bytes}
@@ -11,8 +12,10 @@ use Rattle.plan_spell.specs.Nodes.{Node}
 use Rattle.plan_spell.specs.Held.{Held, Part, Writer, contents, part_fields, fields_by, presence, whole_varint, unless_none, unless_zero, unless_empty, packed}
 use Rattle.plan_spell.specs.Parts.{parts_of}
 use Rattle.plan_spell.specs.Spelled.{spelled_at}
+use Rattle.spell_tree.specs.declared.part.HeldRef.{HeldRef}
+use Rattle.spell_tree.specs.declared.part.HeldRef.TheVariants as h
 use Rattle.spell_tree.specs.declared.part.PartRef.{PartRef}
-use Rattle.spell_tree.specs.Seen.{Group, part_seen, parts_seen, varint_records, block_records}
+use Rattle.spell_tree.specs.Seen.{Group, held_seen, part_seen, parts_seen, varint_records, block_records}
 
 -- an item in front of those behind it
 behind : {A : Type 0} (xs : List A) (left : ℕ) (x d : A) → 0 < left → left ≤ length xs → x ≡ get_or xs (left - 1) d → drop (left - 1) xs ≡ x ∷ drop left xs
@@ -103,6 +106,19 @@ pub some_packed : (numbers : List ℕ) → (numbers ≡ [] → ⊥) → packed n
 some_packed [] some = absurd (some refl)
 some_packed (number ∷ numbers) some = refl
 
+pub none_packed : (numbers : List ℤ) → numbers ≡ [] → packed (map whole_varint numbers) ≡ []
+none_packed numbers none = ap (λ ns. packed (map whole_varint ns)) none
+
+pub some_int32s : (numbers : List ℤ) → (numbers ≡ [] → ⊥) → packed (map whole_varint numbers) ≡ packed_bytes (map whole_varint numbers) ∷ []
+some_int32s [] some = absurd (some refl)
+some_int32s (number ∷ numbers) some = refl
+
+pub int32s_none : (number : ℕ) (numbers : List ℤ) (out : List ℕ) → numbers ≡ [] → out ≡ block_records number (packed (map whole_varint numbers)) ++ out
+int32s_none number numbers out none = no_block number out ∙ ap (λ bs. block_records number bs ++ out) (sym (none_packed numbers none))
+
+pub int32s_put : (number : ℕ) (numbers : List ℤ) (out new : List ℕ) → (numbers ≡ [] → ⊥) → new ≡ record_bytes (record { number = number; content = Bytes (packed_bytes (map whole_varint numbers)) }) ++ out → new ≡ block_records number (packed (map whole_varint numbers)) ++ out
+int32s_put number numbers out new some put = one_block number (packed_bytes (map whole_varint numbers)) out new put ∙ ap (λ bs. block_records number bs ++ out) (sym (some_int32s numbers some))
+
 -- a block in front of those behind it
 pub block_front : (number : ℕ) (blocks : List (List ℕ)) (left : ℕ) (block d out rest new : List ℕ) → 0 < left → left ≤ length blocks → block ≡ get_or blocks (left - 1) d → rest ≡ block_records number (drop left blocks) ++ out
     → new ≡ record_bytes (record { number = number; content = Bytes block }) ++ rest → new ≡ block_records number (drop (left - 1) blocks) ++ out
@@ -113,7 +129,7 @@ block_front number blocks left block d out rest new some within is done put = it
 pub message_front : {A : Type 0} (number : ℕ) (spell : A → List ℕ) (nodes : List A) (left before : ℕ) (out old rest new : List ℕ) → 0 < left → left ≤ length nodes → old ≡ block_records number (drop left (map spell nodes)) ++ out → before ≡ length old
     → rest ≡ get_or (map spell nodes) (left - 1) [] ++ old → ((bytes rest_ : List ℕ) → rest ≡ bytes ++ rest_ → length rest_ ≡ before → new ≡ record_bytes (record { number = number; content = Bytes bytes }) ++ rest_) → new ≡ block_records number (drop (left - 1) (map spell nodes)) ++ out
 message_front number spell nodes left before out old rest new some within done size put closed =
-    block_front number (map spell nodes) left (get_or (map spell nodes) (left - 1) []) [] out old new some (omega (arith, within, length-map spell nodes)) refl done (closed (get_or (map spell nodes) (left - 1) []) old put (sym size))
+    block_front number (map spell nodes) left (get_or (map spell nodes) (left - 1) []) [] out old new some (omega (arith, within, length-map nodes spell)) refl done (closed (get_or (map spell nodes) (left - 1) []) old put (sym size))
 
 -- numbers of a packed block
 pub uint32_front : (numbers : List ℕ) (left number : ℕ) (out rest new : List ℕ) → 0 < left → left ≤ length numbers → number ≡ get_or numbers (left - 1) 0 → rest ≡ packed_bytes (drop left numbers) ++ out → new ≡ varint_bytes number ++ rest → new ≡ packed_bytes (drop (left - 1) numbers) ++ out
@@ -154,7 +170,7 @@ unfolding block_records
 blocks_begun number blocks left out is = ap (λ bs. block_records number bs ++ out) (sym (ap (λ n. drop n blocks) is ∙ drop_whole blocks))
 
 pub messages_begun : {A : Type 0} (number : ℕ) (spell : A → List ℕ) (nodes : List A) (left : ℕ) (out : List ℕ) → left ≡ length nodes → out ≡ block_records number (drop left (map spell nodes)) ++ out
-messages_begun number spell nodes left out is = blocks_begun number (map spell nodes) left out (is ∙ sym (length-map spell nodes))
+messages_begun number spell nodes left out is = blocks_begun number (map spell nodes) left out (is ∙ sym (length-map nodes spell))
 
 pub parts_begun : (write : Writer) (parts : List PartRef) (out : List ℕ) → out ≡ message_bytes (fields_by write (parts_seen (drop (length parts) parts))) ++ out
 unfolding message_bytes
@@ -198,3 +214,25 @@ item_parts f (y ∷ xs) (suc at) x parts here is are = item_parts f xs at x part
 pub only_parts : (at : ℕ) (parts only : List Part) → at < 1 → parts ≡ only → parts ≡ get_or (only ∷ []) at []
 only_parts zero parts only here are = are
 only_parts (suc at) parts only here are = absurd (omega (arith, here))
+
+-- what follows where a call is Ok
+pub carried : {T E A B : Type 0} (result : Result T E) → (A → B) → OnOk result A → OnOk result B
+carried (Ok value) step fact = step fact
+carried (Err error) step fact = fact
+
+pub varints_arm : {T E : Type 0} (levels number : ℕ) (held variant : HeldRef) (values out new : List ℕ) (result : Result T E) → held ≡ variant → held_seen number variant ≡ record { number = number; held = (held_seen number variant).held }
+    → contents (spelled_at levels) (held_seen number variant).held ≡ map Varint values → OnOk result (new ≡ varint_records number values ++ out) → OnOk result (new ≡ message_bytes (part_fields (spelled_at levels) (held_seen number held)) ++ out)
+varints_arm levels number held variant values out new result is own are wrote =
+    carried result (λ put. varints_put (spelled_at levels) (record { number = number; held = (held_seen number variant).held }) values out new are put
+    ∙ ap (λ part. message_bytes (part_fields (spelled_at levels) part) ++ out) (sym own ∙ ap (held_seen number) (sym is))) wrote
+
+pub blocks_arm : {T E : Type 0} (levels number : ℕ) (held variant : HeldRef) (blocks : List (List ℕ)) (out new : List ℕ) (result : Result T E) → held ≡ variant → held_seen number variant ≡ record { number = number; held = (held_seen number variant).held }
+    → contents (spelled_at levels) (held_seen number variant).held ≡ map Bytes blocks → OnOk result (new ≡ block_records number blocks ++ out) → OnOk result (new ≡ message_bytes (part_fields (spelled_at levels) (held_seen number held)) ++ out)
+blocks_arm levels number held variant blocks out new result is own are wrote =
+    carried result (λ put. blocks_put (spelled_at levels) (record { number = number; held = (held_seen number variant).held }) blocks out new are put
+    ∙ ap (λ part. message_bytes (part_fields (spelled_at levels) part) ++ out) (sym own ∙ ap (held_seen number) (sym is))) wrote
+
+pub presence_arm : {T E : Type 0} (levels number : ℕ) (held : HeldRef) (is_there : Bool) (out new : List ℕ) (result : Result T E) → held ≡ h.Presence is_there → OnOk result (new ≡ block_records number (if is_there then [] ∷ [] else []) ++ out)
+    → OnOk result (new ≡ message_bytes (part_fields (spelled_at levels) (held_seen number held)) ++ out)
+presence_arm levels number held is_there out new result is wrote =
+    carried result (λ put. presence_put levels number is_there out new put ∙ ap (λ part. message_bytes (part_fields (spelled_at levels) part) ++ out) (ap (held_seen number) (sym is))) wrote

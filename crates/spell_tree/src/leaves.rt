@@ -1,8 +1,10 @@
 // The fields of the messages that hold no relation and no expression, each in the order in which they are written.
-ghost use Rattle.std.specs.Prelude.{◌≡◌, IfOk};
+ghost use Rattle.std.specs.Prelude.{◌≡◌, [], ◌∷◌, IfOk};
+ghost use Rattle.plan_scan.specs.declared.shape.Shape.TheVariants as shapes;
+ghost use Rattle.plan_spell.specs.Held.{member};
 ghost use Rattle.plan_spell.specs.Leaves as tables;
 ghost use Rattle.plan_leaves.specs.declared.types.RawType.{out-RawType};
-ghost use Rattle.spell_tree.specs.Seen.{parts_seen};
+ghost use Rattle.spell_tree.specs.Seen.{held_seen, parts_seen};
 
 use crate::fields::{
     block, block_member, blocks, int32, messages, optional, presence, truth, uint32,
@@ -200,7 +202,9 @@ fn plain_type<'a>(
     alloc: Global,
     number: u32,
     nullability: u32,
-) -> Result<Vec<PartRef<'a>>, NoMemory> {
+) -> Result<Vec<PartRef<'a>>, NoMemory>
+    ensures { IfOk result (λ parts. parts_seen parts.items ≡ member number shapes.PlainType nullability ∷ []) }
+{
     Ok(vec![in alloc; messages(number, MessagesRef::PlainType(nullability))]?)
 }
 
@@ -272,7 +276,9 @@ fn literal_with<'a>(
     number: u32,
     held: HeldRef<'a>,
     nullable: bool,
-) -> Result<Vec<PartRef<'a>>, NoMemory> {
+) -> Result<Vec<PartRef<'a>>, NoMemory>
+    ensures { IfOk result (λ parts. parts_seen parts.items ≡ tables.literal_with (held_seen number held.entry) nullable) }
+{
     Ok(vec![in alloc; PartRef { number, held }, truth(50, nullable)]?)
 }
 

@@ -110,7 +110,32 @@ impl<'a> MessagesRef<'a> {
             MessagesRef::IfValue(values) => values.len(),
             MessagesRef::Literal(literals) => literals.len(),
             MessagesRef::DataType(types) => types.len(),
-            _ => 1,
+            MessagesRef::Plan(_)
+            | MessagesRef::ExtensionFunction(_)
+            | MessagesRef::Emit(_)
+            | MessagesRef::ReadRel(_)
+            | MessagesRef::TypeStruct(_)
+            | MessagesRef::FilterRel(_)
+            | MessagesRef::FetchRel(_)
+            | MessagesRef::AggregateRel(_)
+            | MessagesRef::SortRel(_)
+            | MessagesRef::JoinRel(_)
+            | MessagesRef::ProjectRel(_)
+            | MessagesRef::SetRel(_)
+            | MessagesRef::CrossRel(_)
+            | MessagesRef::ScalarFunction(_)
+            | MessagesRef::FieldReference(_)
+            | MessagesRef::IfThen(_)
+            | MessagesRef::SwitchExpression(_)
+            | MessagesRef::SingularOrList(_)
+            | MessagesRef::Cast(_)
+            | MessagesRef::DecimalLiteral(_)
+            | MessagesRef::PlainType(_)
+            | MessagesRef::DecimalType(_)
+            | MessagesRef::Subquery(_)
+            | MessagesRef::ScalarSubquery(_)
+            | MessagesRef::InPredicate(_)
+            | MessagesRef::SetPredicate(_) => 1,
         }
     }
 }

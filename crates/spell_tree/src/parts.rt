@@ -9,12 +9,13 @@ use std::alloc::Global;
 use sub_types::NoMemory;
 
 /// The fields of one of the messages, in the order in which they are written.
+#[tactic(auto, using(crate::proofs::FrontLaws::item_parts, crate::proofs::FrontLaws::only_parts))]
 pub(crate) fn parts_at<'a>(
     alloc: Global,
     messages: MessagesRef<'a>,
     at: usize,
 ) -> Result<Vec<PartRef<'a>>, NoMemory>
-    requires { at < length (messages_seen messages.entry).nodes }
+    requires { at < length (messages_seen messages).nodes }
     ensures { IfOk result (λ parts. parts_seen parts.items ≡ get_or (map (parts_of (messages_seen messages.entry).shape) (messages_seen messages.entry).nodes) at []) }
 {
     match messages {

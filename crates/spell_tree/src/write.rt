@@ -2,7 +2,7 @@
 ghost use Rattle.std.specs.Prelude.{◌≡◌, [], ◌∷◌, ◌++◌, ◌<◌, ◌^◌, get_or, length, map, if◌then◌else◌, OnOk, IfOk};
 ghost use Rattle.std.specs.Option.{option_to_list};
 ghost use Rattle.pb_wire.specs.Records.{Bytes};
-ghost use Rattle.pb_write.specs.Write.{message_bytes, packed_bytes, record_bytes};
+ghost use Rattle.pb_write.specs.Write.{message_bytes, packed_bytes, record_bytes, varint_bytes};
 ghost use Rattle.plan_spell.specs.Held.{fields_by, packed, part_fields, truth_varint, unless_empty, unless_false, unless_none, unless_zero, whole_varint};
 ghost use Rattle.plan_spell.specs.Spelled.{spelled, spelled_at};
 ghost use Rattle.spell_tree.specs.Seen.{block_records, messages_seen, part_seen, parts_seen, varint_records};
@@ -40,7 +40,7 @@ fn write_message(
     at: usize,
     levels: u32,
 ) -> Result<(), NoMemory>
-    requires { at < length (messages_seen messages.entry).nodes }
+    requires { at < length (messages_seen messages).nodes }
     ensures { OnOk result (out.new ≡ get_or (map (spelled_at levels (messages_seen messages.entry).shape) (messages_seen messages.entry).nodes) at [] ++ out.old) }
 {
     if levels == 0 {
@@ -234,7 +234,7 @@ fn put_uint32s(out: &mut Backwards, numbers: &[u32]) -> Result<(), NoMemory>
     Ok(())
 }
 
-#[tactic(auto, using(crate::proofs::FrontLaws::one_block, crate::proofs::FrontLaws::no_block, crate::proofs::FrontLaws::some_packed))]
+#[tactic(auto, using(crate::proofs::FrontLaws::int32s_none, crate::proofs::FrontLaws::int32s_put))]
 fn write_packed_int32s(out: &mut Backwards, number: u32, numbers: &[i32]) -> Result<(), NoMemory>
     ensures { OnOk result (out.new ≡ block_records number (packed (map whole_varint numbers.now)) ++ out.old) }
 {
@@ -253,7 +253,13 @@ fn put_int32s(out: &mut Backwards, numbers: &[i32]) -> Result<(), NoMemory>
     let mut left = numbers.len();
     while left > 0 {
         left -= 1;
-        out.varint(i64::from(numbers[left]).cast_unsigned())?;
+        put_int32(out, &numbers[left])?;
     }
     Ok(())
+}
+
+fn put_int32(out: &mut Backwards, number: &i32) -> Result<(), NoMemory>
+    ensures { OnOk result (out.new ≡ varint_bytes (whole_varint number.now) ++ out.old) }
+{
+    out.varint(i64::from(*number).cast_unsigned())
 }
