@@ -1,21 +1,24 @@
 -- Messages that are written from the last record to the first.
-use Rattle.std.proofs.Common.{◌≡◌, ◌∙◌, sym, ap, refl, subst, ℕ, zero, suc, ◌+◌, ◌-◌, ◌<◌, ◌≤◌, ℤ, pos, negsuc, List, [], ◌∷◌, ◌++◌, map, Result, Ok, Err, OnOk, Bool, true, false, if◌then◌else◌, drop, get_or, length, arith, drop-cons, append_assoc, append-nil}
+use Rattle.std.proofs.Common.{◌≡◌, ◌∙◌, sym, ap, refl, subst, ℕ, zero, suc, ◌+◌, ◌-◌, ◌^◌, ◌<◌, ◌≤◌, ℤ, pos, negsuc, List, [], ◌∷◌, ◌++◌, map, Result, IfOk, OnOk, Bool, true, false, if◌then◌else◌, drop, get_or, length, arith, drop-cons, append_assoc, append-nil}
 use Rattle.std.specs.List.{flat_map}
 use Rattle.std.proofs.lemmas.Grind.{flat_map-append}
 use Rattle.std.proofs.lemmas.List.{length-map}
+use Rattle.std.proofs.lemmas.Result.{IfOk-weaker, on_ok_weaker}
 use Rattle.pb_wire.specs.Records.{Varint, Bytes}
 use Rattle.pb_wire.specs.Payloads.{Field}
 use Rattle.pb_write.specs.Write.{varint_bytes, record_bytes, message_bytes, packed_bytes}
+use Rattle.plan_raw.specs.declared.plan.PlanTree.{PlanTree}
 use Rattle.plan_scan.specs.declared.shape.Shape.{Shape}
 use Rattle.plan_scan.specs.declared.shape.Shape.TheVariants as s
 use Rattle.plan_spell.specs.Nodes.{Node}
 use Rattle.plan_spell.specs.Held.{Held, Part, Writer, contents, part_fields, fields_by, presence, whole_varint, unless_none, unless_zero, unless_empty, packed}
 use Rattle.plan_spell.specs.Parts.{parts_of}
-use Rattle.plan_spell.specs.Spelled.{spelled_at}
+use Rattle.plan_spell.specs.Spelled.{spelled, spelled_at}
 use Rattle.spell_tree.specs.declared.part.HeldRef.{HeldRef}
 use Rattle.spell_tree.specs.declared.part.HeldRef.TheVariants as h
+use Rattle.spell_tree.specs.declared.part.MessagesRef.{MessagesRef}
 use Rattle.spell_tree.specs.declared.part.PartRef.{PartRef}
-use Rattle.spell_tree.specs.Seen.{Group, held_seen, part_seen, parts_seen, varint_records, block_records}
+use Rattle.spell_tree.specs.Seen.{Group, messages_seen, held_seen, part_seen, parts_seen, varint_records, block_records}
 
 -- an item in front of those behind it
 behind : {A : Type 0} (xs : List A) (left : ℕ) (x d : A) → 0 < left → left ≤ length xs → x ≡ get_or xs (left - 1) d → drop (left - 1) xs ≡ x ∷ drop left xs
@@ -215,24 +218,45 @@ pub only_parts : (at : ℕ) (parts only : List Part) → at < 1 → parts ≡ on
 only_parts zero parts only here are = are
 only_parts (suc at) parts only here are = absurd (omega (arith, here))
 
--- what follows where a call is Ok
-pub carried : {T E A B : Type 0} (result : Result T E) → (A → B) → OnOk result A → OnOk result B
-carried (Ok value) step fact = step fact
-carried (Err error) step fact = fact
-
+-- the records of a field, by its variant
 pub varints_arm : {T E : Type 0} (levels number : ℕ) (held variant : HeldRef) (values out new : List ℕ) (result : Result T E) → held ≡ variant → held_seen number variant ≡ record { number = number; held = (held_seen number variant).held }
     → contents (spelled_at levels) (held_seen number variant).held ≡ map Varint values → OnOk result (new ≡ varint_records number values ++ out) → OnOk result (new ≡ message_bytes (part_fields (spelled_at levels) (held_seen number held)) ++ out)
 varints_arm levels number held variant values out new result is own are wrote =
-    carried result (λ put. varints_put (spelled_at levels) (record { number = number; held = (held_seen number variant).held }) values out new are put
+    on_ok_weaker result (λ put. varints_put (spelled_at levels) (record { number = number; held = (held_seen number variant).held }) values out new are put
     ∙ ap (λ part. message_bytes (part_fields (spelled_at levels) part) ++ out) (sym own ∙ ap (held_seen number) (sym is))) wrote
 
 pub blocks_arm : {T E : Type 0} (levels number : ℕ) (held variant : HeldRef) (blocks : List (List ℕ)) (out new : List ℕ) (result : Result T E) → held ≡ variant → held_seen number variant ≡ record { number = number; held = (held_seen number variant).held }
     → contents (spelled_at levels) (held_seen number variant).held ≡ map Bytes blocks → OnOk result (new ≡ block_records number blocks ++ out) → OnOk result (new ≡ message_bytes (part_fields (spelled_at levels) (held_seen number held)) ++ out)
 blocks_arm levels number held variant blocks out new result is own are wrote =
-    carried result (λ put. blocks_put (spelled_at levels) (record { number = number; held = (held_seen number variant).held }) blocks out new are put
+    on_ok_weaker result (λ put. blocks_put (spelled_at levels) (record { number = number; held = (held_seen number variant).held }) blocks out new are put
     ∙ ap (λ part. message_bytes (part_fields (spelled_at levels) part) ++ out) (sym own ∙ ap (held_seen number) (sym is))) wrote
 
 pub presence_arm : {T E : Type 0} (levels number : ℕ) (held : HeldRef) (is_there : Bool) (out new : List ℕ) (result : Result T E) → held ≡ h.Presence is_there → OnOk result (new ≡ block_records number (if is_there then [] ∷ [] else []) ++ out)
     → OnOk result (new ≡ message_bytes (part_fields (spelled_at levels) (held_seen number held)) ++ out)
 presence_arm levels number held is_there out new result is wrote =
-    carried result (λ put. presence_put levels number is_there out new put ∙ ap (λ part. message_bytes (part_fields (spelled_at levels) part) ++ out) (ap (held_seen number) (sym is))) wrote
+    on_ok_weaker result (λ put. presence_put levels number is_there out new put ∙ ap (λ part. message_bytes (part_fields (spelled_at levels) part) ++ out) (ap (held_seen number) (sym is))) wrote
+
+-- the fields of a message, by the variant that it stands in
+pub items_arm : {V E : Type 0} (seen : V → List Part) (result : Result V E) (messages variant : MessagesRef) (at : ℕ) (shape : Shape) (nodes : List (Node shape)) (node : Node shape) → messages ≡ variant → messages_seen variant ≡ record { shape = shape; nodes = nodes }
+    → at < length (messages_seen messages).nodes → node ≡ get_or nodes at node → IfOk result (λ parts. seen parts ≡ parts_of shape node) → IfOk result (λ parts. seen parts ≡ get_or (map (parts_of (messages_seen messages).shape) (messages_seen messages).nodes) at [])
+items_arm seen result messages variant at shape nodes node is own within found ensured =
+    let group : messages_seen messages ≡ record { shape = shape; nodes = nodes } = ap messages_seen is ∙ own in
+    let here : at < length nodes = subst (λ (g : Group). at < length g.nodes) group within in
+    IfOk-weaker result (λ parts. seen parts ≡ parts_of shape node) (λ parts. seen parts ≡ get_or (map (parts_of (messages_seen messages).shape) (messages_seen messages).nodes) at []) (λ parts are. item_parts (parts_of shape) nodes at node (seen parts) here found are ∙ ap (λ (g : Group). get_or (map (parts_of g.shape) g.nodes) at []) (sym group)) ensured
+
+pub single_arm : {V E : Type 0} (seen : V → List Part) (result : Result V E) (messages variant : MessagesRef) (at : ℕ) (shape : Shape) (node : Node shape) → messages ≡ variant → messages_seen variant ≡ record { shape = shape; nodes = node ∷ [] }
+    → at < length (messages_seen messages).nodes → IfOk result (λ parts. seen parts ≡ parts_of shape node) → IfOk result (λ parts. seen parts ≡ get_or (map (parts_of (messages_seen messages).shape) (messages_seen messages).nodes) at [])
+single_arm seen result messages variant at shape node is own within ensured =
+    let group : messages_seen messages ≡ record { shape = shape; nodes = node ∷ [] } = ap messages_seen is ∙ own in
+    let here : at < length (node ∷ []) = subst (λ (g : Group). at < length g.nodes) group within in
+    IfOk-weaker result (λ parts. seen parts ≡ parts_of shape node) (λ parts. seen parts ≡ get_or (map (parts_of (messages_seen messages).shape) (messages_seen messages).nodes) at []) (λ parts are. only_parts at (seen parts) (parts_of shape node) (omega (arith, here)) are ∙ ap (λ (g : Group). get_or (map (parts_of g.shape) g.nodes) at []) (sym group)) ensured
+
+-- the bytes of a plan
+pub plan_put : (tree : PlanTree) (out new bytes : List ℕ) → out ≡ [] → new ≡ get_or (map (spelled_at 100 s.Plan) (tree ∷ [])) 0 [] ++ out → bytes ≡ new → bytes ≡ spelled tree
+unfolding spelled
+plan_put tree out new bytes none put are = are ∙ put ∙ ap (λ b. spelled_at 100 s.Plan tree ++ b) none ∙ append-nil (spelled_at 100 s.Plan tree)
+
+pub plan_short : (tree : PlanTree) (out new : List ℕ) (len : ℕ) → out ≡ [] → new ≡ get_or (map (spelled_at 100 s.Plan) (tree ∷ [])) 0 [] ++ out → len ≡ length new → len < 2 ^ 64 → length (spelled tree) < 2 ^ 64
+plan_short tree out new len none put is short =
+    let long : len ≡ length (spelled tree) = is ∙ ap length (plan_put tree out new new none put refl) in
+    subst (λ n. n < 2 ^ 64) long short

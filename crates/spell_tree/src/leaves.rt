@@ -13,7 +13,7 @@ use crate::part::{HeldRef, MessagesRef, PartRef};
 use plan_leaves::{
     FileItem, FunDecl, FunctionOption, ItemPath, LiteralRow, LocalFiles, MaskExpression, MaskItem,
     MaskStruct, NamedStruct, NamedTable, RawLiteral, RawType, ReferenceSegment, RelCommon,
-    StructField, UriDecl,
+    StructField, StructType, UriDecl,
 };
 use std::alloc::Global;
 use std::slice;
@@ -260,8 +260,18 @@ pub(crate) fn decimal_type_parts<'a>(
     }
 }
 
-// Type.Struct
+// Type.Struct where it stands by itself
 pub(crate) fn struct_type_parts<'a>(
+    alloc: Global,
+    struct_type: &'a StructType,
+) -> Result<Vec<PartRef<'a>>, NoMemory>
+    ensures { IfOk result (λ parts. parts_seen parts.items ≡ tables.struct_type_parts struct_type.now) }
+{
+    Ok(vec![in alloc; messages(1, MessagesRef::DataType(struct_type.types.as_slice()))]?)
+}
+
+// Type.Struct where it is a type
+pub(crate) fn type_struct_parts<'a>(
     alloc: Global,
     types: &'a [RawType],
 ) -> Result<Vec<PartRef<'a>>, NoMemory>

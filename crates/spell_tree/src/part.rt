@@ -110,32 +110,32 @@ impl<'a> MessagesRef<'a> {
             MessagesRef::IfValue(values) => values.len(),
             MessagesRef::Literal(literals) => literals.len(),
             MessagesRef::DataType(types) => types.len(),
-            MessagesRef::Plan(_)
-            | MessagesRef::ExtensionFunction(_)
-            | MessagesRef::Emit(_)
-            | MessagesRef::ReadRel(_)
-            | MessagesRef::TypeStruct(_)
-            | MessagesRef::FilterRel(_)
-            | MessagesRef::FetchRel(_)
-            | MessagesRef::AggregateRel(_)
-            | MessagesRef::SortRel(_)
-            | MessagesRef::JoinRel(_)
-            | MessagesRef::ProjectRel(_)
-            | MessagesRef::SetRel(_)
-            | MessagesRef::CrossRel(_)
-            | MessagesRef::ScalarFunction(_)
-            | MessagesRef::FieldReference(_)
-            | MessagesRef::IfThen(_)
-            | MessagesRef::SwitchExpression(_)
-            | MessagesRef::SingularOrList(_)
-            | MessagesRef::Cast(_)
-            | MessagesRef::DecimalLiteral(_)
-            | MessagesRef::PlainType(_)
-            | MessagesRef::DecimalType(_)
-            | MessagesRef::Subquery(_)
-            | MessagesRef::ScalarSubquery(_)
-            | MessagesRef::InPredicate(_)
-            | MessagesRef::SetPredicate(_) => 1,
+            MessagesRef::Plan(_) => 1,
+            MessagesRef::ExtensionFunction(_) => 1,
+            MessagesRef::Emit(_) => 1,
+            MessagesRef::ReadRel(_) => 1,
+            MessagesRef::TypeStruct(_) => 1,
+            MessagesRef::FilterRel(_) => 1,
+            MessagesRef::FetchRel(_) => 1,
+            MessagesRef::AggregateRel(_) => 1,
+            MessagesRef::SortRel(_) => 1,
+            MessagesRef::JoinRel(_) => 1,
+            MessagesRef::ProjectRel(_) => 1,
+            MessagesRef::SetRel(_) => 1,
+            MessagesRef::CrossRel(_) => 1,
+            MessagesRef::ScalarFunction(_) => 1,
+            MessagesRef::FieldReference(_) => 1,
+            MessagesRef::IfThen(_) => 1,
+            MessagesRef::SwitchExpression(_) => 1,
+            MessagesRef::SingularOrList(_) => 1,
+            MessagesRef::Cast(_) => 1,
+            MessagesRef::DecimalLiteral(_) => 1,
+            MessagesRef::PlainType(_) => 1,
+            MessagesRef::DecimalType(_) => 1,
+            MessagesRef::Subquery(_) => 1,
+            MessagesRef::ScalarSubquery(_) => 1,
+            MessagesRef::InPredicate(_) => 1,
+            MessagesRef::SetPredicate(_) => 1,
         }
     }
 }

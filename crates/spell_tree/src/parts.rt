@@ -9,7 +9,6 @@ use std::alloc::Global;
 use sub_types::NoMemory;
 
 /// The fields of one of the messages, in the order in which they are written.
-#[tactic(auto, using(crate::proofs::FrontLaws::item_parts, crate::proofs::FrontLaws::only_parts))]
 pub(crate) fn parts_at<'a>(
     alloc: Global,
     messages: MessagesRef<'a>,
@@ -33,11 +32,8 @@ pub(crate) fn parts_at<'a>(
         MessagesRef::Emit(mapping) => leaves::emit_parts(alloc, mapping),
         MessagesRef::ReadRel(rel) => rels::read_parts(alloc, rel),
         MessagesRef::NamedStruct(schemas) => leaves::named_struct_parts(alloc, &schemas[at]),
-        MessagesRef::StructType(structs) => leaves::struct_type_parts(
-            alloc,
-            structs[at].types.as_slice(),
-        ),
-        MessagesRef::TypeStruct(types) => leaves::struct_type_parts(alloc, types),
+        MessagesRef::StructType(structs) => leaves::struct_type_parts(alloc, &structs[at]),
+        MessagesRef::TypeStruct(types) => leaves::type_struct_parts(alloc, types),
         MessagesRef::NamedTable(tables) => leaves::named_table_parts(alloc, &tables[at]),
         MessagesRef::VirtualTable(tables) => rels::virtual_table_parts(alloc, &tables[at]),
         MessagesRef::LiteralRow(rows) => leaves::literal_row_parts(alloc, &rows[at]),

@@ -27,6 +27,8 @@ pub fn spell(alloc: Global, tree: &PlanTree) -> Result<Vec<u8>, NoMemory>
 {
     let mut out = Backwards::new(alloc);
     write_message(&mut out, alloc, MessagesRef::Plan(tree), 0, LEVELS)?;
+    // A length has 64 bits.
+    let _len = out.len();
     Ok(out.into_vec())
 }
 
@@ -71,7 +73,7 @@ fn write_parts(
 
 // The records of a field.
 #[cycle(write)]
-#[tactic(auto, using(crate::proofs::FrontLaws::varints_put, crate::proofs::FrontLaws::blocks_put, crate::proofs::FrontLaws::presence_put, crate::proofs::FrontLaws::one_varint, crate::proofs::FrontLaws::one_block))]
+#[tactic(auto, using(crate::proofs::FrontLaws::presence_put))]
 fn write_part(
     out: &mut Backwards,
     alloc: Global,
@@ -85,10 +87,10 @@ fn write_part(
         HeldRef::Int32(value) => write_int32(out, part.number, value),
         HeldRef::Truth(value) => write_truth(out, part.number, value),
         HeldRef::Block(bytes) => write_block(out, part.number, bytes),
-        HeldRef::Int32Member(value) => out.number(part.number, i64::from(value).cast_unsigned()),
+        HeldRef::Int32Member(value) => write_int32_member(out, part.number, value),
         HeldRef::Int64Member(value) => write_int64(out, part.number, value),
-        HeldRef::TruthMember(value) => out.number(part.number, truth_number(value)),
-        HeldRef::BlockMember(bytes) => write_bytes(out, part.number, bytes),
+        HeldRef::TruthMember(value) => write_truth_member(out, part.number, value),
+        HeldRef::BlockMember(bytes) => write_block_member(out, part.number, bytes),
         HeldRef::EmptyBlock(is_there) => write_empty(out, part.number, is_there),
         HeldRef::PackedUint32s(numbers) => write_packed_uint32s(out, part.number, numbers),
         HeldRef::PackedInt32s(numbers) => write_packed_int32s(out, part.number, numbers),
@@ -150,6 +152,27 @@ fn write_int64(out: &mut Backwards, number: u32, value: Option<i64>) -> Result<(
         None => Ok(()),
         Some(value) => out.number(number, value.cast_unsigned()),
     }
+}
+
+#[tactic(auto, using(crate::proofs::FrontLaws::one_varint))]
+fn write_int32_member(out: &mut Backwards, number: u32, value: i32) -> Result<(), NoMemory>
+    ensures { OnOk result (out.new ≡ varint_records number (whole_varint value ∷ []) ++ out.old) }
+{
+    out.number(number, i64::from(value).cast_unsigned())
+}
+
+#[tactic(auto, using(crate::proofs::FrontLaws::one_varint))]
+fn write_truth_member(out: &mut Backwards, number: u32, value: bool) -> Result<(), NoMemory>
+    ensures { OnOk result (out.new ≡ varint_records number (truth_varint value ∷ []) ++ out.old) }
+{
+    out.number(number, truth_number(value))
+}
+
+#[tactic(auto, using(crate::proofs::FrontLaws::one_block))]
+fn write_block_member(out: &mut Backwards, number: u32, bytes: &[u8]) -> Result<(), NoMemory>
+    ensures { OnOk result (out.new ≡ block_records number (bytes.now ∷ []) ++ out.old) }
+{
+    write_bytes(out, number, bytes)
 }
 
 fn truth_number(value: bool) -> u64
@@ -234,7 +257,7 @@ fn put_uint32s(out: &mut Backwards, numbers: &[u32]) -> Result<(), NoMemory>
     Ok(())
 }
 
-#[tactic(auto, using(crate::proofs::FrontLaws::int32s_none, crate::proofs::FrontLaws::int32s_put))]
+#[tactic(auto, using(crate::proofs::FrontLaws::int32s_put))]
 fn write_packed_int32s(out: &mut Backwards, number: u32, numbers: &[i32]) -> Result<(), NoMemory>
     ensures { OnOk result (out.new ≡ block_records number (packed (map whole_varint numbers.now)) ++ out.old) }
 {

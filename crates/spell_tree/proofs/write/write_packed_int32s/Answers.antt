@@ -1,6 +1,6 @@
-use Rattle.std.proofs.Common.{rules}
+use Rattle.std.proofs.Common.{arith}
 use Rattle.spell_tree.proofs.FrontLaws.{int32s_none}
 use Rattle.spell_tree.proofs.write.write_packed_int32s.Goals as goal
 
 pub returns-then-is_empty : goal.returns-then-is_empty
-returns-then-is_empty c = int32s_none c.args.number c.args.numbers.now c.args.out.now (search rules)
+returns-then-is_empty c = int32s_none c.args.number c.args.numbers.now c.args.out.now (c.if-is_empty.ensures ?)
