@@ -81,10 +81,10 @@ messages_seen (m.SetPredicate expr) = record { shape = s.SetPredicate; nodes = e
 -- a field
 abbrev pub held_seen : ℕ → HeldRef → Part
 held_seen number (h.Uint32 value) = uint32 number value
-held_seen number (h.Int32 value) = int32 number value
+held_seen number (h.Int32 value) = int32 number value.now
 held_seen number (h.Truth value) = truth number value
 held_seen number (h.Block bytes) = block number bytes.now
-held_seen number (h.Int32Member value) = record { number = number; held = Int32s (value ∷ []) }
+held_seen number (h.Int32Member value) = record { number = number; held = Int32s (value.now ∷ []) }
 held_seen number (h.Int64Member value) = record { number = number; held = Int64s (option_to_list value) }
 held_seen number (h.TruthMember value) = record { number = number; held = Truths (value ∷ []) }
 held_seen number (h.BlockMember bytes) = blocks number (bytes.now ∷ [])

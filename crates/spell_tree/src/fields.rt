@@ -1,5 +1,5 @@
 // Fields by their kinds, and what stands in optional ones.
-ghost use Rattle.std.specs.Prelude.{◌≡◌, [], ◌∷◌};
+ghost use Rattle.std.specs.Prelude.{◌≡◌, ◌<◌, [], ◌∷◌, get_or, length};
 ghost use Rattle.std.specs.Option.{option_to_list};
 ghost use Rattle.std.specs.Mem.{FitsInMemory};
 ghost use Rattle.plan_spell.specs.Held as held;
@@ -19,8 +19,8 @@ pub(crate) fn uint32<'a>(number: u32, value: u32) -> PartRef<'a>
     }
 }
 
-pub(crate) fn int32<'a>(number: u32, value: i32) -> PartRef<'a>
-    ensures { part_seen result ≡ held.int32 number value }
+pub(crate) fn int32<'a>(number: u32, value: &'a i32) -> PartRef<'a>
+    ensures { part_seen result ≡ held.int32 number value.now }
 {
     PartRef {
         number,
@@ -104,4 +104,12 @@ pub(crate) fn boxed<T>(value: &Option<Boxed<T>>) -> &[T]
         None => &[],
         Some(value) => slice::from_ref(value.get()),
     }
+}
+
+/// The item at a place.
+pub(crate) fn item_at<T>(items: &[T], at: usize) -> &T
+    requires { at < length items.now }
+    ensures { result.now ≡ get_or items.now at result.now }
+{
+    &items[at]
 }

@@ -161,7 +161,7 @@ pub(crate) fn mask_item_parts<'a>(
 ) -> Result<Vec<PartRef<'a>>, NoMemory>
     ensures { IfOk result (λ parts. parts_seen parts.items ≡ tables.mask_item_parts item.now) }
 {
-    Ok(vec![in alloc; int32(1, item.field), presence(2, item.child)]?)
+    Ok(vec![in alloc; int32(1, &item.field), presence(2, item.child)]?)
 }
 
 // FunctionOption
@@ -194,7 +194,7 @@ pub(crate) fn struct_field_parts<'a>(
 ) -> Result<Vec<PartRef<'a>>, NoMemory>
     ensures { IfOk result (λ parts. parts_seen parts.items ≡ tables.struct_field_parts field.now) }
 {
-    Ok(vec![in alloc; int32(1, field.field), presence(2, field.child)]?)
+    Ok(vec![in alloc; int32(1, &field.field), presence(2, field.child)]?)
 }
 
 // a type that has nothing but its nullability
@@ -251,8 +251,8 @@ pub(crate) fn decimal_type_parts<'a>(
             nullability,
         } => {
             Ok(vec![in alloc;
-                int32(1, *scale),
-                int32(2, *precision),
+                int32(1, scale),
+                int32(2, precision),
                 uint32(4, *nullability),
             ]?)
         }
@@ -310,19 +310,19 @@ pub(crate) fn literal_parts<'a>(
         RawLiteral::I8 { value, nullable } => literal_with(
             alloc,
             2,
-            HeldRef::Int32Member(*value),
+            HeldRef::Int32Member(value),
             *nullable,
         ),
         RawLiteral::I16 { value, nullable } => literal_with(
             alloc,
             3,
-            HeldRef::Int32Member(*value),
+            HeldRef::Int32Member(value),
             *nullable,
         ),
         RawLiteral::I32 { value, nullable } => literal_with(
             alloc,
             5,
-            HeldRef::Int32Member(*value),
+            HeldRef::Int32Member(value),
             *nullable,
         ),
         RawLiteral::I64 { value, nullable } => literal_with(
@@ -352,7 +352,7 @@ pub(crate) fn literal_parts<'a>(
         RawLiteral::Date { value, nullable } => literal_with(
             alloc,
             16,
-            HeldRef::Int32Member(*value),
+            HeldRef::Int32Member(value),
             *nullable,
         ),
         RawLiteral::Decimal { nullable, .. } => literal_with(
@@ -386,8 +386,8 @@ pub(crate) fn decimal_parts<'a>(
         } => {
             Ok(vec![in alloc;
                 block(1, value.bytes()),
-                int32(2, *precision),
-                int32(3, *scale),
+                int32(2, precision),
+                int32(3, scale),
             ]?)
         }
         _ => Ok(Vec::new(alloc)),

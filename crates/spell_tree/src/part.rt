@@ -145,10 +145,10 @@ impl<'a> MessagesRef<'a> {
 #[derive(Clone, Copy)]
 pub(crate) enum HeldRef<'a> {
     Uint32(u32),
-    Int32(i32),
+    Int32(&'a i32),
     Truth(bool),
     Block(&'a [u8]),
-    Int32Member(i32),
+    Int32Member(&'a i32),
     Int64Member(Option<i64>),
     TruthMember(bool),
     BlockMember(&'a [u8]),

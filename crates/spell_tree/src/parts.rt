@@ -3,6 +3,7 @@ ghost use Rattle.std.specs.Prelude.{◌≡◌, ◌<◌, [], IfOk, get_or, length
 ghost use Rattle.plan_spell.specs.Parts.{parts_of};
 ghost use Rattle.spell_tree.specs.Seen.{messages_seen, parts_seen};
 
+use crate::fields::item_at;
 use crate::part::{MessagesRef, PartRef};
 use crate::{exprs, leaves, rels};
 use std::alloc::Global;
@@ -57,14 +58,17 @@ pub(crate) fn parts_at<'a>(
         MessagesRef::CrossRel(rel) => rels::cross_parts(alloc, rel),
         MessagesRef::MaskExpression(masks) => leaves::mask_parts(alloc, &masks[at]),
         MessagesRef::StructSelect(selects) => leaves::mask_struct_parts(alloc, &selects[at]),
-        MessagesRef::StructItem(items) => leaves::mask_item_parts(alloc, &items[at]),
+        MessagesRef::StructItem(items) => leaves::mask_item_parts(alloc, item_at(items, at)),
         MessagesRef::Expression(exprs) => exprs::expression_parts(alloc, &exprs[at]),
         MessagesRef::ScalarFunction(expr) => exprs::scalar_function_parts(alloc, expr),
         MessagesRef::FunctionArgument(arguments) => exprs::argument_parts(alloc, &arguments[at]),
         MessagesRef::FunctionOption(options) => leaves::option_parts(alloc, &options[at]),
         MessagesRef::FieldReference(expr) => exprs::reference_parts(alloc, expr),
-        MessagesRef::ReferenceSegment(segments) => leaves::segment_parts(alloc, &segments[at]),
-        MessagesRef::StructField(fields) => leaves::struct_field_parts(alloc, &fields[at]),
+        MessagesRef::ReferenceSegment(segments) => leaves::segment_parts(
+            alloc,
+            item_at(segments, at),
+        ),
+        MessagesRef::StructField(fields) => leaves::struct_field_parts(alloc, item_at(fields, at)),
         MessagesRef::IfThen(expr) => exprs::if_then_parts(alloc, expr),
         MessagesRef::IfClause(clauses) => exprs::if_clause_parts(alloc, &clauses[at]),
         MessagesRef::SwitchExpression(expr) => exprs::switch_parts(alloc, expr),

@@ -94,7 +94,7 @@ fn write_part(
         HeldRef::EmptyBlock(is_there) => write_empty(out, part.number, is_there),
         HeldRef::PackedUint32s(numbers) => write_packed_uint32s(out, part.number, numbers),
         HeldRef::PackedInt32s(numbers) => write_packed_int32s(out, part.number, numbers),
-        HeldRef::Blocks(blocks) => write_blocks(out, part.number, blocks),
+        HeldRef::Blocks(values) => write_blocks(out, part.number, values),
         HeldRef::Presence(is_there) => write_empty(out, part.number, is_there),
         HeldRef::Messages(messages) => write_messages(out, alloc, part.number, messages, levels),
     }
@@ -134,13 +134,13 @@ fn write_uint32(out: &mut Backwards, number: u32, value: u32) -> Result<(), NoMe
 }
 
 #[tactic(auto, using(crate::proofs::FrontLaws::one_varint, crate::proofs::FrontLaws::zero_put, crate::proofs::FrontLaws::other_number))]
-fn write_int32(out: &mut Backwards, number: u32, value: i32) -> Result<(), NoMemory>
-    ensures { OnOk result (out.new ≡ varint_records number (map whole_varint (unless_zero value)) ++ out.old) }
+fn write_int32(out: &mut Backwards, number: u32, value: &i32) -> Result<(), NoMemory>
+    ensures { OnOk result (out.new ≡ varint_records number (map whole_varint (unless_zero value.now)) ++ out.old) }
 {
-    if value == 0 {
+    if *value == 0 {
         Ok(())
     } else {
-        out.number(number, i64::from(value).cast_unsigned())
+        out.number(number, i64::from(*value).cast_unsigned())
     }
 }
 
@@ -155,10 +155,10 @@ fn write_int64(out: &mut Backwards, number: u32, value: Option<i64>) -> Result<(
 }
 
 #[tactic(auto, using(crate::proofs::FrontLaws::one_varint))]
-fn write_int32_member(out: &mut Backwards, number: u32, value: i32) -> Result<(), NoMemory>
-    ensures { OnOk result (out.new ≡ varint_records number (whole_varint value ∷ []) ++ out.old) }
+fn write_int32_member(out: &mut Backwards, number: u32, value: &i32) -> Result<(), NoMemory>
+    ensures { OnOk result (out.new ≡ varint_records number (whole_varint value.now ∷ []) ++ out.old) }
 {
-    out.number(number, i64::from(value).cast_unsigned())
+    out.number(number, i64::from(*value).cast_unsigned())
 }
 
 #[tactic(auto, using(crate::proofs::FrontLaws::one_varint))]

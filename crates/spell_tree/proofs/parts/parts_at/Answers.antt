@@ -105,7 +105,7 @@ pub returns-in-StructSelect : goal.returns-in-StructSelect
 returns-in-StructSelect c = items_arm (λ parts. parts_seen parts.items) c.mask_struct_parts.result c.args.messages (m.StructSelect c.in-StructSelect.selects) c.args.at s.StructSelect c.in-StructSelect.selects.now c.index-selects-at.result c.in-StructSelect.is refl c.requires c.index-selects-at.is c.mask_struct_parts.ensures
 
 pub returns-in-StructItem : goal.returns-in-StructItem
-returns-in-StructItem c = items_arm (λ parts. parts_seen parts.items) c.mask_item_parts.result c.args.messages (m.StructItem c.in-StructItem.items) c.args.at s.StructItem c.in-StructItem.items.now c.index-items-at-in-StructItem.result c.in-StructItem.is refl c.requires c.index-items-at-in-StructItem.is c.mask_item_parts.ensures
+returns-in-StructItem c = items_arm (λ parts. parts_seen parts.items) c.mask_item_parts.result c.args.messages (m.StructItem c.in-StructItem.items) c.args.at s.StructItem c.in-StructItem.items.now c.item_at.result.now c.in-StructItem.is refl c.requires c.item_at.ensures c.mask_item_parts.ensures
 
 pub returns-in-Expression : goal.returns-in-Expression
 returns-in-Expression c = items_arm (λ parts. parts_seen parts.items) c.expression_parts.result c.args.messages (m.Expression c.in-Expression.exprs) c.args.at s.Expression c.in-Expression.exprs.now c.index-exprs-at.result c.in-Expression.is refl c.requires c.index-exprs-at.is c.expression_parts.ensures
@@ -123,10 +123,10 @@ pub returns-in-FieldReference : goal.returns-in-FieldReference
 returns-in-FieldReference c = single_arm (λ parts. parts_seen parts.items) c.reference_parts.result c.args.messages (m.FieldReference c.in-FieldReference.expr) c.args.at s.FieldReference c.in-FieldReference.expr.now c.in-FieldReference.is refl c.requires c.reference_parts.ensures
 
 pub returns-in-ReferenceSegment : goal.returns-in-ReferenceSegment
-returns-in-ReferenceSegment c = items_arm (λ parts. parts_seen parts.items) c.segment_parts.result c.args.messages (m.ReferenceSegment c.in-ReferenceSegment.segments) c.args.at s.ReferenceSegment c.in-ReferenceSegment.segments.now c.index-segments-at.result c.in-ReferenceSegment.is refl c.requires c.index-segments-at.is c.segment_parts.ensures
+returns-in-ReferenceSegment c = items_arm (λ parts. parts_seen parts.items) c.segment_parts.result c.args.messages (m.ReferenceSegment c.in-ReferenceSegment.segments) c.args.at s.ReferenceSegment c.in-ReferenceSegment.segments.now c.item_at-in-ReferenceSegment.result.now c.in-ReferenceSegment.is refl c.requires c.item_at-in-ReferenceSegment.ensures c.segment_parts.ensures
 
 pub returns-in-StructField : goal.returns-in-StructField
-returns-in-StructField c = items_arm (λ parts. parts_seen parts.items) c.struct_field_parts.result c.args.messages (m.StructField c.in-StructField.fields) c.args.at s.StructField c.in-StructField.fields.now c.index-fields-at.result c.in-StructField.is refl c.requires c.index-fields-at.is c.struct_field_parts.ensures
+returns-in-StructField c = items_arm (λ parts. parts_seen parts.items) c.struct_field_parts.result c.args.messages (m.StructField c.in-StructField.fields) c.args.at s.StructField c.in-StructField.fields.now c.item_at-in-StructField.result.now c.in-StructField.is refl c.requires c.item_at-in-StructField.ensures c.struct_field_parts.ensures
 
 pub returns-in-IfThen : goal.returns-in-IfThen
 returns-in-IfThen c = single_arm (λ parts. parts_seen parts.items) c.if_then_parts.result c.args.messages (m.IfThen c.in-IfThen.expr) c.args.at s.IfThen c.in-IfThen.expr.now c.in-IfThen.is refl c.requires c.if_then_parts.ensures
