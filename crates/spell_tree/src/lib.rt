@@ -1,0 +1,12 @@
+//! A plan's tree written into its bytes, which `plan_spell` defines. It stands on `plan_spell` and `pb_write`.
+#![tactic(auto)]
+
+mod exprs;
+mod fields;
+mod leaves;
+mod part;
+mod parts;
+mod rels;
+mod write;
+
+pub use write::spell;
