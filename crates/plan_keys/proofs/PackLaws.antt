@@ -40,7 +40,7 @@ packed_told (x ∷ a) (y ∷ b) limit r s a_bytes b_bytes long m n same =
     let left = byte_first x a a_bytes in
     let right = byte_first y b b_bytes in
     let shorter : length a ≡ length b = omega arith in
-    one_more (nat_lt limit (2 ^ 56)) limit m n x y a b r s left.0 right.0
+    one_more (nat_lt limit (2 ^ 112)) limit m n x y a b r s left.0 right.0
     (packed_told a b (limit * 256) r s left.1 right.1 shorter) (packed_told a b 256 r s left.1 right.1 shorter) same
 
 each_byte : (a b : List ℕ) (r s : List ℤ) → length a ≡ length b → map pos a ++ r ≡ map pos b ++ s → (a ≡ b) × (r ≡ s)
@@ -77,15 +77,15 @@ begins_otherwise n a r s = begins (list_all is_byte a) n (pos (length a)) (packe
 pub next_byte : (bytes : List ℕ) (i d : ℕ) → i < length bytes → drop i bytes ≡ get_or bytes i d ∷ drop (i + 1) bytes
 next_byte bytes i d below = rw (add-one, drop-cons bytes i d) refl
 
-pub with_room : (limit number byte : ℕ) (rest : List ℕ) → limit < 2 ^ 56 → packed limit number (byte ∷ rest) ≡ packed (limit * 256) (number * 256 + byte) rest
+pub with_room : (limit number byte : ℕ) (rest : List ℕ) → limit < 2 ^ 112 → packed limit number (byte ∷ rest) ≡ packed (limit * 256) (number * 256 + byte) rest
 unfolding packed
 with_room limit number byte rest room =
-    ap (λ b. cond b (packed (limit * 256) (number * 256 + byte) rest) (pos number ∷ packed 256 byte rest)) (lt-ltb limit (2 ^ 56) room)
+    ap (λ b. cond b (packed (limit * 256) (number * 256 + byte) rest) (pos number ∷ packed 256 byte rest)) (lt-ltb limit (2 ^ 112) room)
 
-pub without_room : (limit number byte : ℕ) (rest : List ℕ) → 2 ^ 56 ≤ limit → packed limit number (byte ∷ rest) ≡ pos number ∷ packed 256 byte rest
+pub without_room : (limit number byte : ℕ) (rest : List ℕ) → 2 ^ 112 ≤ limit → packed limit number (byte ∷ rest) ≡ pos number ∷ packed 256 byte rest
 unfolding packed
 without_room limit number byte rest full =
-    ap (λ b. cond b (packed (limit * 256) (number * 256 + byte) rest) (pos number ∷ packed 256 byte rest)) (le-ltb limit (2 ^ 56) full)
+    ap (λ b. cond b (packed (limit * 256) (number * 256 + byte) rest) (pos number ∷ packed 256 byte rest)) (le-ltb limit (2 ^ 112) full)
 
 pub no_byte : (limit number : ℕ) → packed limit number [] ≡ pos number ∷ pos 0 ∷ []
 unfolding packed
@@ -95,7 +95,7 @@ pub byte_more : (byte : ℕ) (rest : List ℕ) → byte < 256 → list_all is_by
 byte_more byte rest below = ap (λ b. b && list_all is_byte rest) (lt-ltb byte 256 below)
 
 -- what is written and in the number behind one byte more
-pub more_in : (out start : List ℤ) (bytes : List ℕ) (i limit number byte : ℕ) → i < length bytes → get_or bytes i byte ≡ byte → byte < 256 → limit < 2 ^ 56 → number < limit
+pub more_in : (out start : List ℤ) (bytes : List ℕ) (i limit number byte : ℕ) → i < length bytes → get_or bytes i byte ≡ byte → byte < 256 → limit < 2 ^ 112 → number < limit
     → out ++ packed limit number (drop i bytes) ≡ start → list_all is_byte (drop i bytes) ≡ list_all is_byte bytes
     → (number * 256 + byte < limit * 256) × (out ++ packed (limit * 256) (number * 256 + byte) (drop (i + 1) bytes) ≡ start) × (list_all is_byte (drop (i + 1) bytes) ≡ list_all is_byte bytes)
 more_in out start bytes i limit number byte inside at is_small room below written all =
@@ -105,7 +105,7 @@ more_in out start bytes i limit number byte inside at is_small room below writte
       sym (ap (list_all is_byte) next ∙ byte_more byte (drop (i + 1) bytes) is_small) ∙ all,
     )
 
-pub more_behind : (out start : List ℤ) (bytes : List ℕ) (i limit number byte : ℕ) → i < length bytes → get_or bytes i byte ≡ byte → byte < 256 → 2 ^ 56 ≤ limit
+pub more_behind : (out start : List ℤ) (bytes : List ℕ) (i limit number byte : ℕ) → i < length bytes → get_or bytes i byte ≡ byte → byte < 256 → 2 ^ 112 ≤ limit
     → out ++ packed limit number (drop i bytes) ≡ start → list_all is_byte (drop i bytes) ≡ list_all is_byte bytes
     → (byte < 256) × ((out ++ pos number ∷ []) ++ packed 256 byte (drop (i + 1) bytes) ≡ start) × (list_all is_byte (drop (i + 1) bytes) ≡ list_all is_byte bytes)
 more_behind out start bytes i limit number byte inside at is_small full written all =

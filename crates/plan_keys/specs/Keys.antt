@@ -34,11 +34,11 @@ ty_key ty = truth_number ty.nullable ∷ kind_key ty.kind
 abbrev pub is_byte : ℕ → Bool
 is_byte number = nat_lt number 256
 
--- bytes as digits, seven in each number: behind the digits of a number that has so many that it is below the limit; and a
+-- bytes as digits, fourteen in each number: behind the digits of a number that has so many that it is below the limit; and a
 -- last 0, so that the digests of texts that differ at the end lie apart
 unfoldable pub packed : ℕ → ℕ → List ℕ → List ℤ
 packed limit number [] = pos number ∷ pos 0 ∷ []
-packed limit number (byte ∷ bytes) = cond (nat_lt limit (2 ^ 56)) (packed (limit * 256) (number * 256 + byte) bytes) (pos number ∷ packed 256 byte bytes)
+packed limit number (byte ∷ bytes) = cond (nat_lt limit (2 ^ 112)) (packed (limit * 256) (number * 256 + byte) bytes) (pos number ∷ packed 256 byte bytes)
 
 -- bytes, behind their count; numbers that are no bytes, which no text has, each as it is
 abbrev pub bytes_key : List ℕ → List ℤ

@@ -1,12 +1,12 @@
 // The keys of what holds no expression: truth values, types and values.
-ghost use Rattle.std.specs.Prelude.{◌≡◌, ◌++◌, ◌∷◌, [], pos, true, OnOk};
+ghost use Rattle.std.specs.Prelude.{◌≡◌, ◌<◌, ◌^◌, ◌++◌, ◌∷◌, [], pos, true, OnOk};
 ghost use Rattle.std.specs.List.{list_all};
 ghost use Rattle.plan_keys.specs.Keys as spec;
 
 use sub_types::{Kind, NoMemory, Ty, Value};
 
-/// A number with this limit has seven bytes, and has no room for one more.
-const FULL: u64 = 1 << 56;
+/// A number with this limit has fourteen bytes, and has no room for one more.
+const FULL: u128 = 1 << 112;
 
 /// Writes a number at the end.
 pub(crate) fn push_number(out: &mut Vec<i128>, number: i128) -> Result<(), NoMemory>
@@ -94,34 +94,36 @@ fn push_bytes(out: &mut Vec<i128>, bytes: &[u8]) -> Result<(), NoMemory>
 }
 
 /// Writes a number of several bytes at the end.
-fn push_digits(out: &mut Vec<i128>, number: u64) -> Result<(), NoMemory>
+fn push_digits(out: &mut Vec<i128>, number: u128) -> Result<(), NoMemory>
+    requires { number < 2 ^ 127 }
     ensures { OnOk result (out.new.items ≡ out.old.items ++ pos number ∷ []) }
 {
-    push_number(out, i128::from(number))
+    push_number(out, number as i128)
 }
 
-/// Writes bytes as digits, seven in each number.
+/// Writes bytes as digits, fourteen in each number.
 fn push_packed(out: &mut Vec<i128>, bytes: &[u8]) -> Result<(), NoMemory>
     ensures packed { OnOk result (out.new.items ≡ out.old.items ++ spec.packed 1 0 bytes.now) }
     ensures bytes { OnOk result (list_all spec.is_byte bytes.now ≡ true) }
 {
-    let mut limit: u64 = 1;
-    let mut number: u64 = 0;
+    let mut limit: u128 = 1;
+    let mut number: u128 = 0;
     for byte in bytes {
         if limit < FULL {
             limit *= 256;
-            number = number * 256 + u64::from(*byte);
+            number = number * 256 + u128::from(*byte);
         } else {
             push_digits(out, number)?;
             limit = 256;
-            number = u64::from(*byte);
+            number = u128::from(*byte);
         }
     }
     push_last(out, number)
 }
 
 /// Writes the last number of several bytes at the end.
-fn push_last(out: &mut Vec<i128>, number: u64) -> Result<(), NoMemory>
+fn push_last(out: &mut Vec<i128>, number: u128) -> Result<(), NoMemory>
+    requires { number < 2 ^ 127 }
     ensures { OnOk result (out.new.items ≡ out.old.items ++ pos number ∷ pos 0 ∷ []) }
 {
     push_digits(out, number)?;

@@ -1,4 +1,4 @@
-use Rattle.std.proofs.Common.{rules, ◌≡◌, ◌∙◌, ◌++◌, ◌<◌, ◌≤◌, ◌^◌, [], length, get_or, drop}
+use Rattle.std.proofs.Common.{rules, ◌≡◌, ◌∙◌, ◌++◌, ◌<◌, ◌≤◌, ◌^◌, ◌*◌, arith, [], length, get_or, drop}
 use Rattle.std.proofs.lemmas.List.{drop_all}
 use Rattle.plan_keys.specs.Keys as spec
 use Rattle.plan_keys.proofs.PackLaws.{more_in, more_behind, at_end}
@@ -18,15 +18,17 @@ loop-byte-preserved c =
       | then-limit-lt-FULL w ↦
           let is_small : w.from.result < 256 = search rules in
           let at : get_or bytes i w.from.result ≡ w.from.result = search rules in
-          let room : c.loop-byte.limit < 2 ^ 56 = search rules in
+          let room : c.loop-byte.limit < 2 ^ 112 = search rules in
           let after = more_in out start bytes i c.loop-byte.limit c.loop-byte.number w.from.result inside at is_small room kept.below kept.written kept.bytes in
-          rw (w.out-is, w.limit-is, w.number-is) (record { below = after.0; written = after.1; bytes = after.2 })
+          let most : c.loop-byte.limit * 256 ≤ 2 ^ 120 = omega (arith, room) in
+          rw (w.out-is, w.limit-is, w.number-is) (record { below = after.0; written = after.1; bytes = after.2; most = most })
       | else-limit-lt-FULL+in_ok-push_digits w ↦
           let is_small : w.from-number.result < 256 = search rules in
           let at : get_or bytes i w.from-number.result ≡ w.from-number.result = search rules in
-          let full : 2 ^ 56 ≤ c.loop-byte.limit = search rules in
+          let full : 2 ^ 112 ≤ c.loop-byte.limit = search rules in
           let after = more_behind out start bytes i c.loop-byte.limit c.loop-byte.number w.from-number.result inside at is_small full kept.written kept.bytes in
-          rw (w.out-is, w.limit-is, w.number-is, w.in_ok-push_digits.ensures) (record { below = after.0; written = after.1; bytes = after.2 })
+          let most : 256 ≤ 2 ^ 120 = search rules in
+          rw (w.out-is, w.limit-is, w.number-is, w.in_ok-push_digits.ensures) (record { below = after.0; written = after.1; bytes = after.2; most = most })
     ]
 
 pub returns-clause-packed : goal.returns-clause-packed
