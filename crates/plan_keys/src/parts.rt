@@ -90,6 +90,7 @@ fn push_bytes(out: &mut Vec<i128>, bytes: &[u8]) -> Result<(), NoMemory>
 {
     push_number(out, 4)?;
     push_count(out, bytes.len())?;
+    out.reserve(bytes.len() / 14 + 2)?;
     push_packed(out, bytes)
 }
 
