@@ -38,6 +38,11 @@ def literal(value):
     return message(1, number(7, value))
 
 
+def text(start, place, end):
+    """A text literal of 8,000 bytes: so many of one letter, a number, and so many of another letter."""
+    return message(1, message(12, b"a" * start + b"%06d" % place + b"z" * end))
+
+
 def column(place):
     return message(2, message(1, message(2, number(1, place) if place else b"")), message(4))
 
@@ -151,6 +156,9 @@ PLANS = {
     "grouping expressions of 64 sets whose keys have one slot": lambda: groupings(64, 13_500, of_one_slot),
     "equal grouping expressions of 64 sets whose keys have one slot": lambda: groupings(64, 13_500, lambda place: of_one_slot(place % 1_000)),
     "equal grouping expressions of 64 sets": lambda: groupings(64, 20_000, lambda place: literal(place % 1_000)),
+    "long texts of 64 sets": lambda: groupings(64, 31, lambda place: text(7_994, place, 0)),
+    "equal long texts of 64 sets": lambda: groupings(64, 31, lambda place: text(7_994, place % 1_000, 0)),
+    "equal long texts of 64 sets with one end": lambda: groupings(64, 31, lambda place: text(7_930, place % 1_000, 64)),
     "own grouping expressions": lambda: own_expressions(1_100_000),
     "999 relations of 1,024 columns": lambda: wide(960, 1_024),
 }

@@ -12,6 +12,7 @@ use Rattle.plan_typed.specs.declared.expr.Expr.{Expr, Expr-F, out-Expr, roll-Exp
 use Rattle.plan_typed.specs.declared.expr.Expr.TheFolds.{ind-Expr}
 use Rattle.plan_keys.specs.Keys.{expr_key, level_key, ty_key, kind_key, value_key, call_key, list_key, arm_key, choice_key, truth_number}
 use Rattle.plan_keys.proofs.PieceLaws.{heads, tails, split_two, split_three, split_four}
+use Rattle.plan_keys.proofs.PackLaws.{tells_bytes, begins_otherwise}
 use Rattle.plan_keys.proofs.NumberLaws.{equal_funcs, equal_modes}
 use Rattle.plan_keys.proofs.KeyLevels.{key_at}
 
@@ -49,22 +50,20 @@ tells_ty a b r s same =
     let kinds = tells_kind a.kind b.kind r s (tails same) in
     (λ i. record { kind = kinds.0 i; nullable = nulls i }, kinds.1)
 
-each_byte : (a b : List ℕ) (r s : List ℤ) → length a ≡ length b → map pos a ++ r ≡ map pos b ++ s → (a ≡ b) × (r ≡ s)
-each_byte [] [] r s long same = (refl, same)
-each_byte [] (y ∷ b) r s long same = absurd (omega arith)
-each_byte (x ∷ a) [] r s long same = absurd (omega arith)
-each_byte (x ∷ a) (y ∷ b) r s long same =
-    let first = same_numbers (heads same) in
-    let rest = each_byte a b r s (omega arith) (tails same) in
-    (λ i. first i ∷ rest.0 i, rest.1)
-
 tells_value : (a : Value) → Tells value_key a
 tells_value values.Null values.Null r s same = (refl, tails same)
 tells_value (values.Bool a) (values.Bool b) r s same = (ap values.Bool (truths a b (heads (tails same))), tails (tails same))
 tells_value (values.Int a) (values.Int b) r s same = (ap values.Int (heads (tails same)), tails (tails same))
 tells_value (values.Dec a) (values.Dec b) r s same = (ap values.Dec (heads (tails same)), tails (tails same))
-tells_value (values.Bytes a) (values.Bytes b) r s same =
-    let all = each_byte a b r s (same_numbers (heads (tails same))) (tails (tails same)) in (ap values.Bytes all.0, all.1)
+tells_value (values.Bytes a) (values.Bytes b) r s same = let all = tells_bytes a b r s same in (ap values.Bytes all.0, all.1)
+tells_value (values.Bytes a) values.Null r s same = absurd (begins_otherwise 0 a r s (omega arith) (sym same))
+tells_value (values.Bytes a) (values.Bool b) r s same = absurd (begins_otherwise 1 a r (truth_number b ∷ s) (omega arith) (sym same))
+tells_value (values.Bytes a) (values.Int b) r s same = absurd (begins_otherwise 2 a r (b ∷ s) (omega arith) (sym same))
+tells_value (values.Bytes a) (values.Dec b) r s same = absurd (begins_otherwise 3 a r (b ∷ s) (omega arith) (sym same))
+tells_value values.Null (values.Bytes b) r s same = absurd (begins_otherwise 0 b s r (omega arith) same)
+tells_value (values.Bool a) (values.Bytes b) r s same = absurd (begins_otherwise 1 b s (truth_number a ∷ r) (omega arith) same)
+tells_value (values.Int a) (values.Bytes b) r s same = absurd (begins_otherwise 2 b s (a ∷ r) (omega arith) same)
+tells_value (values.Dec a) (values.Bytes b) r s same = absurd (begins_otherwise 3 b s (a ∷ r) (omega arith) same)
 tells_value _ _ r s same = absurd (cc)
 
 call_parts : (func other : Func) (mode other_mode : Overflow) (r s : List ℤ) → call_key func mode ++ r ≡ call_key other other_mode ++ s → (func ≡ other) × (mode ≡ other_mode) × (r ≡ s)

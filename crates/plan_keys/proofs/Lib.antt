@@ -1,5 +1,6 @@
 pub mod PieceLaws
 pub mod NumberLaws
+pub mod PackLaws
 pub mod KeyLevels
 pub mod KeyLaws
 pub mod FirstLaws

@@ -1,6 +1,6 @@
 -- The key of a checked expression: the expression written out as whole numbers, from the outside to the inside.
-use Rattle.std.specs.Prelude.{ℕ, ℤ, pos, List, [], ◌∷◌, ◌++◌, Bool, true, false, map, length}
-use Rattle.std.specs.List.{flat_map}
+use Rattle.std.specs.Prelude.{ℕ, ◌+◌, ◌*◌, ◌^◌, ℤ, pos, List, [], ◌∷◌, ◌++◌, Bool, true, false, cond, nat_lt, map, length}
+use Rattle.std.specs.List.{flat_map, list_all}
 use Rattle.sub_types.specs.declared.kind.Kind.{Kind}
 use Rattle.sub_types.specs.declared.kind.Kind.TheVariants as kinds
 use Rattle.sub_types.specs.declared.kind.Ty.{Ty}
@@ -31,16 +31,25 @@ kind_key (kinds.Decimal precision scale) = pos 9 ∷ pos precision ∷ pos scale
 abbrev pub ty_key : Ty → List ℤ
 ty_key ty = truth_number ty.nullable ∷ kind_key ty.kind
 
--- bytes, behind their count
+abbrev pub is_byte : ℕ → Bool
+is_byte number = nat_lt number 256
+
+-- bytes as digits, fourteen in each number: behind the digits of a number that has so many that it is below the limit; and a
+-- last 0, so that the digests of texts that differ at the end lie apart
+unfoldable pub packed : ℕ → ℕ → List ℕ → List ℤ
+packed limit number [] = pos number ∷ pos 0 ∷ []
+packed limit number (byte ∷ bytes) = cond (nat_lt limit (2 ^ 112)) (packed (limit * 256) (number * 256 + byte) bytes) (pos number ∷ packed 256 byte bytes)
+
+-- bytes, behind their count; numbers that are no bytes, which no text has, each as it is
 abbrev pub bytes_key : List ℕ → List ℤ
-bytes_key bytes = pos (length bytes) ∷ map pos bytes
+bytes_key bytes = cond (list_all is_byte bytes) (pos 4 ∷ pos (length bytes) ∷ packed 1 0 bytes) (pos 5 ∷ pos (length bytes) ∷ map pos bytes)
 
 abbrev pub value_key : Value → List ℤ
 value_key values.Null = pos 0 ∷ []
 value_key (values.Bool truth) = pos 1 ∷ truth_number truth ∷ []
 value_key (values.Int number) = pos 2 ∷ number ∷ []
 value_key (values.Dec number) = pos 3 ∷ number ∷ []
-value_key (values.Bytes bytes) = pos 4 ∷ bytes_key bytes
+value_key (values.Bytes bytes) = bytes_key bytes
 
 -- the keys of some things, behind their count
 abbrev pub list_key : {X : Type 0} → (X → List ℤ) → List X → List ℤ

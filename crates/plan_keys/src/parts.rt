@@ -1,8 +1,12 @@
 // The keys of what holds no expression: truth values, types and values.
-ghost use Rattle.std.specs.Prelude.{◌≡◌, ◌++◌, ◌∷◌, [], pos, map, OnOk};
+ghost use Rattle.std.specs.Prelude.{◌≡◌, ◌<◌, ◌^◌, ◌++◌, ◌∷◌, [], pos, true, OnOk};
+ghost use Rattle.std.specs.List.{list_all};
 ghost use Rattle.plan_keys.specs.Keys as spec;
 
 use sub_types::{Kind, NoMemory, Ty, Value};
+
+/// A number with this limit has fourteen bytes, and has no room for one more.
+const FULL: u128 = 1 << 112;
 
 /// Writes a number at the end.
 pub(crate) fn push_number(out: &mut Vec<i128>, number: i128) -> Result<(), NoMemory>
@@ -80,19 +84,49 @@ fn push_tagged(out: &mut Vec<i128>, variant: i128, number: i128) -> Result<(), N
     push_number(out, number)
 }
 
+#[tactic(auto, using(crate::proofs::PackLaws::key_of_bytes))]
 fn push_bytes(out: &mut Vec<i128>, bytes: &[u8]) -> Result<(), NoMemory>
-    ensures { OnOk result (out.new.items ≡ out.old.items ++ pos 4 ∷ spec.bytes_key bytes.now) }
+    ensures { OnOk result (out.new.items ≡ out.old.items ++ spec.bytes_key bytes.now) }
 {
     push_number(out, 4)?;
     push_count(out, bytes.len())?;
-    push_each_byte(out, bytes)
+    out.reserve(bytes.len() / 14 + 2)?;
+    push_packed(out, bytes)
 }
 
-fn push_each_byte(out: &mut Vec<i128>, bytes: &[u8]) -> Result<(), NoMemory>
-    ensures { OnOk result (out.new.items ≡ out.old.items ++ map pos bytes.now) }
+/// Writes a number of several bytes at the end.
+fn push_digits(out: &mut Vec<i128>, number: u128) -> Result<(), NoMemory>
+    requires { number < 2 ^ 127 }
+    ensures { OnOk result (out.new.items ≡ out.old.items ++ pos number ∷ []) }
 {
+    push_number(out, number as i128)
+}
+
+/// Writes bytes as digits, fourteen in each number.
+fn push_packed(out: &mut Vec<i128>, bytes: &[u8]) -> Result<(), NoMemory>
+    ensures packed { OnOk result (out.new.items ≡ out.old.items ++ spec.packed 1 0 bytes.now) }
+    ensures bytes { OnOk result (list_all spec.is_byte bytes.now ≡ true) }
+{
+    let mut limit: u128 = 1;
+    let mut number: u128 = 0;
     for byte in bytes {
-        push_number(out, i128::from(*byte))?;
+        if limit < FULL {
+            limit *= 256;
+            number = number * 256 + u128::from(*byte);
+        } else {
+            push_digits(out, number)?;
+            limit = 256;
+            number = u128::from(*byte);
+        }
     }
-    Ok(())
+    push_last(out, number)
+}
+
+/// Writes the last number of several bytes at the end.
+fn push_last(out: &mut Vec<i128>, number: u128) -> Result<(), NoMemory>
+    requires { number < 2 ^ 127 }
+    ensures { OnOk result (out.new.items ≡ out.old.items ++ pos number ∷ pos 0 ∷ []) }
+{
+    push_digits(out, number)?;
+    push_number(out, 0)
 }
