@@ -1,5 +1,5 @@
 -- Messages that are written from the last record to the first.
-use Rattle.std.proofs.Common.{◌≡◌, ◌∙◌, sym, ap, refl, subst, ℕ, zero, suc, ◌+◌, ◌-◌, ◌^◌, ◌<◌, ◌≤◌, ℤ, pos, negsuc, List, [], ◌∷◌, ◌++◌, map, Result, IfOk, OnOk, Bool, true, false, if◌then◌else◌, drop, get_or, length, arith, drop-cons, append_assoc, append-nil}
+use Rattle.std.proofs.Common.{◌≡◌, ◌∙◌, sym, ap, refl, subst, ℕ, zero, suc, ◌-◌, ◌^◌, ◌<◌, ◌≤◌, ℤ, pos, negsuc, List, [], ◌∷◌, ◌++◌, map, Result, IfOk, OnOk, Bool, true, false, if◌then◌else◌, drop, get_or, length, arith, drop-cons, append_assoc, append-nil}
 use Rattle.std.specs.List.{flat_map}
 use Rattle.std.proofs.lemmas.Grind.{flat_map-append}
 use Rattle.std.proofs.lemmas.List.{length-map}
@@ -11,7 +11,7 @@ use Rattle.plan_raw.specs.declared.plan.PlanTree.{PlanTree}
 use Rattle.plan_scan.specs.declared.shape.Shape.{Shape}
 use Rattle.plan_scan.specs.declared.shape.Shape.TheVariants as s
 use Rattle.plan_spell.specs.Nodes.{Node}
-use Rattle.plan_spell.specs.Held.{Held, Part, Writer, contents, part_fields, fields_by, presence, whole_varint, unless_none, unless_zero, unless_empty, packed}
+use Rattle.plan_spell.specs.Held.{Part, Writer, contents, part_fields, fields_by, presence, whole_varint, unless_none, unless_zero, unless_empty, packed}
 use Rattle.plan_spell.specs.Parts.{parts_of}
 use Rattle.plan_spell.specs.Spelled.{spelled, spelled_at}
 use Rattle.spell_tree.specs.declared.part.HeldRef.{HeldRef}

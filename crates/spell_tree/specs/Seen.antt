@@ -1,5 +1,5 @@
 -- What stands in a plan's tree, as the tables of written messages see it.
-use Rattle.std.specs.Prelude.{ℕ, ℤ, List, [], ◌∷◌, map, if◌then◌else◌}
+use Rattle.std.specs.Prelude.{ℕ, List, [], ◌∷◌, map, if◌then◌else◌}
 use Rattle.std.specs.List.{flat_map}
 use Rattle.std.specs.Option.{option_to_list}
 use Rattle.pb_wire.specs.Records.{Varint, Bytes}
@@ -7,7 +7,7 @@ use Rattle.pb_write.specs.Write.{record_bytes}
 use Rattle.plan_scan.specs.declared.shape.Shape.{Shape}
 use Rattle.plan_scan.specs.declared.shape.Shape.TheVariants as s
 use Rattle.plan_spell.specs.Nodes.{Node}
-use Rattle.plan_spell.specs.Held.{Held, Int32s, Int64s, Truths, PackedUint32s, PackedInt32s, Blocks, Messages, Part, uint32, int32, truth, block, blocks, presence}
+use Rattle.plan_spell.specs.Held.{Int32s, Int64s, Truths, PackedUint32s, PackedInt32s, Messages, Part, uint32, int32, truth, block, blocks, presence}
 use Rattle.spell_tree.specs.declared.part.MessagesRef.{MessagesRef}
 use Rattle.spell_tree.specs.declared.part.MessagesRef.TheVariants as m
 use Rattle.spell_tree.specs.declared.part.HeldRef.{HeldRef}

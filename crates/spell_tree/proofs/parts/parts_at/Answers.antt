@@ -1,4 +1,4 @@
-use Rattle.std.proofs.Common.{[], ◌∷◌, refl}
+use Rattle.std.proofs.Common.{refl}
 use Rattle.plan_scan.specs.declared.shape.Shape.TheVariants as s
 use Rattle.spell_tree.specs.declared.part.MessagesRef.TheVariants as m
 use Rattle.spell_tree.specs.Seen.{parts_seen}

@@ -1,10 +1,10 @@
-use Rattle.std.proofs.Common.{[], ◌∷◌, ◌++◌, map, get_or, if◌then◌else◌, refl, ap, sym, ◌∙◌, arith, rules}
+use Rattle.std.proofs.Common.{[], ◌∷◌, map, if◌then◌else◌, refl, arith}
 use Rattle.std.specs.Option.{option_to_list}
 use Rattle.plan_spell.specs.Held.{packed, truth_varint, unless_empty, unless_false, unless_none, unless_zero, whole_varint}
 use Rattle.plan_spell.specs.Spelled.{spelled_at}
 use Rattle.spell_tree.specs.declared.part.HeldRef.TheVariants as h
 use Rattle.spell_tree.specs.Seen.{messages_seen}
-use Rattle.spell_tree.proofs.FrontLaws.{blocks_arm, message_front, messages_begun, part_front, parts_begun, presence_arm, varints_arm}
+use Rattle.spell_tree.proofs.FrontLaws.{blocks_arm, message_front, part_front, varints_arm}
 use Rattle.spell_tree.proofs.write.+write.Goals as goal
 
 pub write_part-returns-in-Uint32 : goal.write_part-returns-in-Uint32
