@@ -1,7 +1,8 @@
 // A column of numbers (Arrow columnar format, fixed-size primitive layout).
-ghost use Rattle.std.specs.Prelude.{◌≡◌, ◌↔◌, ◌<◌, ◌∷◌, ◌++◌, [], None, length, vec_len, map, is_some, slice_index_or, OnOk, OnErr, IsTrue};
+ghost use Rattle.std.specs.Prelude.{◌≡◌, ◌↔◌, ◌+◌, ◌<◌, ◌∷◌, ◌++◌, List, [], None, length, vec_len, map, is_some, slice_index_or, OnOk, OnErr, IsTrue};
 ghost use Rattle.sub_types.specs.Optional.{optional};
 ghost use Rattle.sub_types.specs.Slots.{slots};
+ghost use Rattle.col_fixed.specs.Column.{IsColumn, IsClearedBelow};
 
 use crate::{Native, View};
 use std::alloc::Global;
@@ -44,11 +45,7 @@ impl<T: Native> Fixed<T> {
         ensures { result ≡ optional values.items valid }
     {
         let mut values = values;
-        for i in 0..valid.len() {
-            if !valid.get(i) {
-                values[i] = T::zero();
-            }
-        }
+        clear_nulls(&mut values, &valid);
         Fixed { values, valid }
     }
 
@@ -121,5 +118,35 @@ impl<T: Native> Fixed<T> {
             return Err(NoMemory);
         }
         Ok(())
+    }
+}
+
+// Puts zero into the slots that aren't valid. A byte of 255 says that eight are, and is skipped.
+fn clear_nulls<T: Native>(values: &mut Vec<T>, valid: &Bits)
+    requires { vec_len values.old ≡ length valid.now }
+    ensures column { IsColumn T.zero values.new.items valid.now }
+    ensures same { optional values.new.items valid.now ≡ optional values.old.items valid.now }
+{
+    let bytes = valid.bytes();
+    'bytes: for place in 0..bytes.len() {
+        if bytes[place] != 255 {
+            clear_eight(values, valid, 8 * place);
+        }
+    }
+}
+
+// Puts zero into those of the next eight slots that aren't valid.
+fn clear_eight<T: Native>(values: &mut Vec<T>, valid: &Bits, from: usize)
+    requires long { vec_len values.old ≡ length valid.now }
+    requires within { from < length valid.now }
+    ensures { (start : List T) → IsClearedBelow T.zero start values.old.items valid.now from
+        → IsClearedBelow T.zero start values.new.items valid.now (from + 8) }
+{
+    let rest = valid.len() - from;
+    let to = if rest < 8 { valid.len() } else { from + 8 };
+    for i in from..to {
+        if !valid.get(i) {
+            values[i] = T::zero();
+        }
     }
 }

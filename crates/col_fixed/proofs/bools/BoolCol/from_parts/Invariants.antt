@@ -1,5 +1,5 @@
 use Rattle.std.proofs.Common.{false}
-use Rattle.col_fixed.proofs.Cleared.{IsClearedBelow}
+use Rattle.col_fixed.specs.Column.{IsClearedBelow}
 use Rattle.col_fixed.proofs.bools.BoolCol.from_parts.Given as goal
 
 abbrev pub invariant-loop-i : goal.invariant-loop-i
