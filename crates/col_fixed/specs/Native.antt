@@ -1,5 +1,5 @@
 -- Numbers of a width, written as bytes and read back: one lemma for all widths.
-use Rattle.std.proofs.Common.{◌≡◌, ◌∙◌, ℕ, ◌^◌, ◌<◌, List, [], ℤ, slice_index, ap, sym, subst}
+use Rattle.std.proofs.Common.{◌≡◌, ◌∙◌, ℕ, suc, ◌^◌, ◌<◌, List, [], ℤ, slice_index, ap, sym, subst, arith}
 use Rattle.std.specs.Prelude.{FitsSigned}
 use Rattle.std.specs.Int.{Width, cast_signed, cast_unsigned}
 use mir.Val.{bits}
@@ -8,6 +8,10 @@ use Rattle.byteorder.specs.Numbers.{little_number-reads_back, little_from-lt}
 use Rattle.std.proofs.lemmas.List.{append-nil}
 use Rattle.std.proofs.lemmas.Int.{to_z-of_z}
 use Rattle.std.proofs.Math.Facts.{sfits_to_z, Fits-of_z}
+
+-- a number takes a byte at least
+pub has_bytes : (n : ℕ) → 0 < suc n
+has_bytes n = omega arith
 
 -- reading the bytes that a number was written as gives the number
 pub reads_back : (w : Width) (n : ℕ) → 256 ^ n ≡ 2 ^ bits w → (x : ℤ) → FitsSigned w x → cast_signed w (little_number n (little_bytes n (cast_unsigned w x))) ≡ x

@@ -1,15 +1,18 @@
 // Whole numbers of a fixed width, as a buffer of a column holds them: two's complement, little-endian
 // (Arrow columnar format, fixed-size primitive layout).
-ghost use Rattle.std.specs.Prelude.{◌≡◌, ℕ, ◌<◌, List, length, slice_index, ℤ, pos, FitsSigned, refl};
+ghost use Rattle.std.specs.Prelude.{◌≡◌, ℕ, ◌/◌, ◌<◌, List, length, map, slice_index, ℤ, pos, FitsSigned, IfOk, refl};
 ghost use Rattle.std.specs.Int.{Width, w8, w16, w32, w64, w128, cast_signed, cast_unsigned};
 ghost use Rattle.std.specs.Ordering.{int_cmp};
+ghost use Rattle.std.specs.Simd.{first_chunks};
 ghost use Rattle.std.specs.Cmp.{IsTotalOrder, int_cmp_total};
 ghost use Rattle.byteorder.specs.Endian.{little_bytes, little_number};
 ghost use Rattle.byteorder.specs.Numbers.{length-bytes_low_first};
-ghost use Rattle.col_fixed.specs.Native.{reads_back, read_fits};
+ghost use Rattle.col_fixed.specs.Native.{has_bytes, reads_back, read_fits};
 
 use byteorder::{ByteOrder, LittleEndian};
+use std::alloc::Global;
 use std::cmp::Ordering;
+use sub_types::NoMemory;
 
 /// A signed whole number that takes `SIZE` bytes.
 pub trait Native: Copy {
@@ -38,6 +41,10 @@ pub trait Native: Copy {
         requires { length bytes.now ≡ SIZE }
         ensures { result ≡ value_of bytes.now };
 
+    /// The values of each whole chunk of `SIZE` bytes.
+    fn read_all(alloc: Global, bytes: &[u8]) -> Result<Vec<Self>, NoMemory>
+        ensures { IfOk result (λ values. values.items ≡ map value_of (first_chunks SIZE (length bytes.now / SIZE) bytes.now)) };
+
     /// Writes the value as `SIZE` bytes, the lowest first.
     fn write_le(self, into: &mut [u8])
         requires { length into.old ≡ SIZE }
@@ -46,6 +53,9 @@ pub trait Native: Copy {
     /// How the two compare as whole numbers.
     fn order(self, other: Self) -> Ordering
         ensures { result ≡ int_cmp (number self) (number other) };
+
+    // A value takes a byte at least.
+    ghost has_bytes: { 0 < SIZE };
 
     // Reading what was written gives the value.
     ghost reads_back: { (x : Self) → FitsSigned width (number x) → value_of (bytes_of x) ≡ x };
@@ -91,6 +101,15 @@ impl Native for i8 {
         bytes[0].cast_signed()
     }
 
+    fn read_all(alloc: Global, bytes: &[u8]) -> Result<Vec<i8>, NoMemory> {
+        let (chunks, _) = bytes.as_chunks::<1>();
+        let values = chunks
+            .iter()
+            .map(|chunk| chunk[0].cast_signed())
+            .collect(alloc)?;
+        Ok(values)
+    }
+
     fn write_le(self, into: &mut [u8]) {
         into[0] = self.cast_unsigned();
     }
@@ -98,6 +117,8 @@ impl Native for i8 {
     fn order(self, other: i8) -> Ordering {
         self.cmp(&other)
     }
+
+    ghost has_bytes = { has_bytes 0 };
 
     ghost reads_back = { λ x fits. reads_back w8 1 refl x fits };
 
@@ -139,6 +160,15 @@ impl Native for i16 {
         LittleEndian::read_i16(bytes)
     }
 
+    fn read_all(alloc: Global, bytes: &[u8]) -> Result<Vec<i16>, NoMemory> {
+        let (chunks, _) = bytes.as_chunks::<2>();
+        let values = chunks
+            .iter()
+            .map(|chunk| LittleEndian::read_i16(chunk))
+            .collect(alloc)?;
+        Ok(values)
+    }
+
     fn write_le(self, into: &mut [u8]) {
         LittleEndian::write_i16(into, self);
     }
@@ -146,6 +176,8 @@ impl Native for i16 {
     fn order(self, other: i16) -> Ordering {
         self.cmp(&other)
     }
+
+    ghost has_bytes = { has_bytes 1 };
 
     ghost reads_back = { λ x fits. reads_back w16 2 refl x fits };
 
@@ -187,6 +219,15 @@ impl Native for i32 {
         LittleEndian::read_i32(bytes)
     }
 
+    fn read_all(alloc: Global, bytes: &[u8]) -> Result<Vec<i32>, NoMemory> {
+        let (chunks, _) = bytes.as_chunks::<4>();
+        let values = chunks
+            .iter()
+            .map(|chunk| LittleEndian::read_i32(chunk))
+            .collect(alloc)?;
+        Ok(values)
+    }
+
     fn write_le(self, into: &mut [u8]) {
         LittleEndian::write_i32(into, self);
     }
@@ -194,6 +235,8 @@ impl Native for i32 {
     fn order(self, other: i32) -> Ordering {
         self.cmp(&other)
     }
+
+    ghost has_bytes = { has_bytes 3 };
 
     ghost reads_back = { λ x fits. reads_back w32 4 refl x fits };
 
@@ -235,6 +278,15 @@ impl Native for i64 {
         LittleEndian::read_i64(bytes)
     }
 
+    fn read_all(alloc: Global, bytes: &[u8]) -> Result<Vec<i64>, NoMemory> {
+        let (chunks, _) = bytes.as_chunks::<8>();
+        let values = chunks
+            .iter()
+            .map(|chunk| LittleEndian::read_i64(chunk))
+            .collect(alloc)?;
+        Ok(values)
+    }
+
     fn write_le(self, into: &mut [u8]) {
         LittleEndian::write_i64(into, self);
     }
@@ -242,6 +294,8 @@ impl Native for i64 {
     fn order(self, other: i64) -> Ordering {
         self.cmp(&other)
     }
+
+    ghost has_bytes = { has_bytes 7 };
 
     ghost reads_back = { λ x fits. reads_back w64 8 refl x fits };
 
@@ -283,6 +337,15 @@ impl Native for i128 {
         LittleEndian::read_i128(bytes)
     }
 
+    fn read_all(alloc: Global, bytes: &[u8]) -> Result<Vec<i128>, NoMemory> {
+        let (chunks, _) = bytes.as_chunks::<16>();
+        let values = chunks
+            .iter()
+            .map(|chunk| LittleEndian::read_i128(chunk))
+            .collect(alloc)?;
+        Ok(values)
+    }
+
     fn write_le(self, into: &mut [u8]) {
         LittleEndian::write_i128(into, self);
     }
@@ -290,6 +353,8 @@ impl Native for i128 {
     fn order(self, other: i128) -> Ordering {
         self.cmp(&other)
     }
+
+    ghost has_bytes = { has_bytes 15 };
 
     ghost reads_back = { λ x fits. reads_back w128 16 refl x fits };
 
