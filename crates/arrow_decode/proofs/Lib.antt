@@ -5,3 +5,4 @@ pub mod TextLaws
 pub mod IndexLaws
 pub mod InKindLaws
 pub mod LengthLaws
+pub mod ChunkLaws

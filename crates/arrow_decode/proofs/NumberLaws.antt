@@ -1,10 +1,8 @@
 -- Numbers in a buffer.
-use Rattle.std.proofs.Common.{◌≡◌, ◌∙◌, ℕ, ◌+◌, ◌*◌, ◌<◌, ◌≤◌, ℤ, List, [], ◌∷◌, length, map, drop, Option, Some, None, Bool, true, false, nat_le, refl, sym, ap, arith, rules, tests}
+use Rattle.std.proofs.Common.{◌≡◌, ◌∙◌, ℕ, ◌*◌, ◌<◌, ◌≤◌, ℤ, List, [], ◌∷◌, length, map, drop, Option, Some, None, Bool, true, false, nat_le, refl, sym, ap, rules, tests}
 use Rattle.std.specs.Int.{Width, w128, cast_signed}
 use Rattle.std.specs.List.{range_with_len, list_all}
 use Rattle.std.specs.Option.{option_map}
-use Rattle.std.proofs.Math.Nat.{mul-le-mul_left}
-use Rattle.std.proofs.lemmas.List.{length-drop}
 use Rattle.byteorder.specs.Endian.{little_number}
 use Rattle.sub_types.specs.Nullable.{int_value, dec_value}
 use Rattle.sub_types.specs.Optional.{optional}
@@ -32,13 +30,6 @@ signed_in-long width size count buffer long =
     let test : nat_le (size * count) (length buffer) ≡ true = search (rules, tests) in
     let joined = map-map (cast_signed width) (λ i. little_number size (drop (size * i) buffer)) (range_with_len 0 count) in
     rw test (ap (λ xs. Some xs) joined)
-
--- there is room for one number more
-pub room : (size count i : ℕ) (buffer : List ℕ) → size * count ≤ length buffer → i < count → size ≤ length (drop (size * i) buffer)
-room size count i buffer long below =
-    let most = mul-le-mul_left size (let next : i + 1 ≤ count = omega arith in next) in
-    let grown : size * (i + 1) ≡ size * i + size = grind arith in
-    omega (arith, long, most, grown, length-drop (size * i) buffer)
 
 -- optional numbers as they are
 pub option_map-same : (xs : List (Option ℤ)) → map (λ x. option_map (λ (n : ℤ). n) x) xs ≡ xs

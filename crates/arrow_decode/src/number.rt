@@ -23,12 +23,7 @@ pub(crate) fn numbers<T: Native>(
     if size > buffer.len() {
         return Ok(None);
     }
-    let mut numbers = Vec::with_capacity(alloc, count)?;
-    let mut rest = buffer;
-    'numbers: for i in 0..count {
-        let (bytes, others) = rest.split_at(T::SIZE);
-        numbers.push(T::read_le(bytes))?;
-        rest = others;
-    }
+    let (bytes, _) = buffer.split_at(size);
+    let numbers = T::read_all(alloc, bytes)?;
     Ok(Some(numbers))
 }
