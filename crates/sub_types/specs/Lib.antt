@@ -1,4 +1,5 @@
 pub mod Bits
+pub mod BitSteps
 pub mod Kind
 pub mod Value
 pub mod Stream

@@ -1,7 +1,8 @@
 // Truth values, packed eight to a byte, the least bit first, as the Arrow columnar format lays out a bitmap.
-ghost use Rattle.std.specs.Prelude.{◌≡◌, ◌≢◌, ◌+◌, ◌*◌, ◌<◌, ◌≤◌, ℕ, List, [], ◌∷◌, ◌++◌, true, false, length, take, replicate, slice_set, slice_index_or, OnOk, OnErr, IfOk, IsTrue, ◌↔◌};
+ghost use Rattle.std.specs.Prelude.{◌≡◌, ◌≢◌, ◌+◌, ◌*◌, ◌<◌, ◌≤◌, ℕ, List, [], ◌∷◌, ◌++◌, true, false, length, take, replicate, slice_set, slice_index, slice_index_or, ◌/◌, ◌%◌, ◌^◌, map, All, OnOk, OnErr, IfOk, IsTrue, ◌↔◌};
 ghost use Rattle.std.specs.List.{slice_range};
 ghost use Rattle.sub_types.specs.Bits.{bit_of, bits_of, IsPacked};
+ghost use Rattle.sub_types.specs.BitSteps.{is_set, both, IsMade, Continues, IsJoined, HoldsFrom, IsPushed, IsMasked};
 
 use crate::NoMemory;
 use std::alloc::Global;
@@ -41,6 +42,14 @@ impl Bits {
         ensures { IfOk result (λ bits. bits ≡ replicate n false) }
     {
         let bytes = vec![in alloc; 0; byte_count(n)]?;
+        Ok(Bits { bytes, len: n })
+    }
+
+    /// `n` times true.
+    pub fn ones(alloc: Global, n: usize) -> Result<Bits, NoMemory>
+        ensures { IfOk result (λ bits. bits ≡ replicate n true) }
+    {
+        let bytes = vec![in alloc; 255; byte_count(n)]?;
         Ok(Bits { bytes, len: n })
     }
 
@@ -100,14 +109,53 @@ impl Bits {
         ensures ok { OnOk result (self.new ≡ self.old ++ slice_range more.now from to) }
         ensures err { OnErr result (self.new ≡ self.old) }
     {
-        let before = self.len();
-        for i in from..to {
-            if let Err(NoMemory) = self.push(more.get(i)) {
-                self.truncate(before);
-                return Err(NoMemory);
-            }
-        }
+        // No memory holds so many bits.
+        let Some(grown) = self.len.checked_add(to - from) else {
+            return Err(NoMemory);
+        };
+        grow(&mut self.bytes, self.len, grown, &more.bytes, from)?;
+        self.len = grown;
         Ok(())
+    }
+
+    /// Those from `from` to before `to`, as a list of its own.
+    pub fn part(&self, alloc: Global, from: usize, to: usize) -> Result<Bits, NoMemory>
+        requires rising { from ≤ to }
+        requires within { to ≤ length self.now }
+        ensures { IfOk result (λ bits. bits ≡ slice_range self.now from to) }
+    {
+        let mut part = Bits::new(alloc);
+        part.append(self, from, to)?;
+        Ok(part)
+    }
+
+    /// Those at these places, in their order.
+    pub fn gather(&self, alloc: Global, at: &[u64]) -> Result<Bits, NoMemory>
+        requires { All (λ i. i < length self.now) at.now }
+        ensures { IfOk result (λ bits. bits ≡ map (λ i. slice_index_or self.now i false) at.now) }
+    {
+        let mut bytes = vec![in alloc; 0; byte_count(at.len())]?;
+        pick(&mut bytes, &self.bytes, at);
+        Ok(Bits {
+            bytes,
+            len: at.len(),
+        })
+    }
+
+    /// Takes memory for so many more, so that adding them needs none.
+    pub fn reserve(&mut self, more: usize) -> Result<(), NoMemory>
+        ensures { self.new ≡ self.old }
+    {
+        self.bytes.reserve(byte_count(more))?;
+        Ok(())
+    }
+
+    /// Each one and the one at the same place of `which`. It takes no memory.
+    pub fn mask(&mut self, which: &Bits)
+        requires { length which.now ≡ length self.old }
+        ensures { self.new ≡ both self.old which.now }
+    {
+        and_bytes(&mut self.bytes, &which.bytes);
     }
 
     /// Keeps the first `n`, or all where there are fewer.
@@ -169,4 +217,158 @@ fn put_bit(bytes: &mut [u8], i: usize, b: bool)
     } else {
         byte & !(1 << (i % 8))
     };
+}
+
+// Adds the bits of `more` from `from` on, so that there are `grown` in all, where there were `len`.
+fn grow(
+    bytes: &mut Vec<u8>,
+    len: usize,
+    grown: usize,
+    more: &[u8],
+    from: usize,
+) -> Result<(), NoMemory>
+    requires packed { IsPacked len bytes.old.items }
+    requires rising { len ≤ grown }
+    requires within { from + grown ≤ 8 * length more.now + len }
+    requires fits { from + grown < 2 ^ 64 + len }
+    ensures ok { OnOk result (Continues bytes.old.items bytes.new.items more.now len from grown) }
+    ensures packed { OnOk result (IsPacked grown bytes.new.items) }
+    ensures err { OnErr result (bytes.new.items ≡ bytes.old.items) }
+{
+    if len % 8 == 0 && from % 8 == 0 {
+        return copy_bytes(bytes, len, grown, more, from);
+    }
+    bytes.resize(byte_count(grown), 0)?;
+    fill(bytes, len, grown, more, from);
+    Ok(())
+}
+
+// The same where whole bytes can be copied.
+fn copy_bytes(
+    bytes: &mut Vec<u8>,
+    len: usize,
+    grown: usize,
+    more: &[u8],
+    from: usize,
+) -> Result<(), NoMemory>
+    requires packed { IsPacked len bytes.old.items }
+    requires rising { len ≤ grown }
+    requires within { from + grown ≤ 8 * length more.now + len }
+    requires whole { len % 8 ≡ 0 }
+    requires whole_from { from % 8 ≡ 0 }
+    ensures ok { OnOk result (Continues bytes.old.items bytes.new.items more.now len from grown) }
+    ensures packed { OnOk result (IsPacked grown bytes.new.items) }
+    ensures err { OnErr result (bytes.new.items ≡ bytes.old.items) }
+{
+    let first = from / 8;
+    let (_, rest) = more.split_at(first);
+    let (copied, _) = rest.split_at(byte_count(grown - len));
+    bytes.extend_from_slice(copied)?;
+    Ok(())
+}
+
+// Writes the bits of `more` from `from` on over those from `len` on, byte by byte.
+fn fill(bytes: &mut [u8], len: usize, grown: usize, more: &[u8], from: usize)
+    requires rising { len ≤ grown }
+    requires enough { grown ≤ 8 * length bytes.old }
+    requires no_more { 8 * length bytes.old < grown + 8 }
+    requires fits { from + grown < 2 ^ 64 + len }
+    ensures filled { Continues bytes.old bytes.new more.now len from grown }
+    ensures len { length bytes.new ≡ length bytes.old }
+{
+    let first = fill_first(bytes, len, more, from);
+    for i in first..bytes.len() {
+        bytes[i] = byte_from(more, from + (8 * i - len));
+    }
+}
+
+// Fills the byte that the bits end in, if they end in one. What follows is whole bytes from the result on.
+fn fill_first(bytes: &mut [u8], len: usize, more: &[u8], from: usize) -> usize
+    requires within { len ≤ 8 * length bytes.old }
+    ensures filled { Continues bytes.old bytes.new more.now len from (8 * result) }
+    ensures next { len ≤ 8 * result }
+    ensures near { 8 * result < len + 8 }
+    ensures len { length bytes.new ≡ length bytes.old }
+{
+    let used = len % 8;
+    if used == 0 {
+        return len / 8;
+    }
+    bytes[len / 8] = joined(bytes[len / 8], byte_from(more, from), used);
+    len / 8 + 1
+}
+
+// The first `used` bits of a byte, and then the bits of the next.
+fn joined(own: u8, next: u8, used: usize) -> u8
+    requires low { 0 < used }
+    requires high { used < 8 }
+    ensures { IsJoined own next used result }
+{
+    let free = 8 - used;
+    own << free >> free | next << used
+}
+
+// Eight bits from a bit on. Those past the last byte are false.
+fn byte_from(bytes: &[u8], at: usize) -> u8
+    ensures { HoldsFrom bytes.now at result }
+{
+    let shift = at % 8;
+    let low = byte_or_zero(bytes, at / 8);
+    if shift == 0 {
+        return low;
+    }
+    let high = byte_or_zero(bytes, at / 8 + 1);
+    low >> shift | high << (8 - shift)
+}
+
+fn byte_or_zero(bytes: &[u8], i: usize) -> u8
+    ensures { result ≡ slice_index bytes.now i }
+{
+    if i < bytes.len() { bytes[i] } else { 0 }
+}
+
+// Writes the bits that stand at these places, eight at a time.
+fn pick(bytes: &mut [u8], source: &[u8], at: &[u64])
+    requires no_more { 8 * length bytes.old < length at.now + 8 }
+    requires within { All (λ i. i < 8 * length source.now) at.now }
+    ensures made { IsMade (λ k. bit_of source.now (slice_index at.now k)) (length at.now) bytes.new (length bytes.old) }
+    ensures len { length bytes.new ≡ length bytes.old }
+{
+    for i in 0..bytes.len() {
+        let count = (at.len() - 8 * i).min(8);
+        bytes[i] = picked(source, at, 8 * i, count);
+    }
+}
+
+// The bits that stand at up to eight places.
+fn picked(source: &[u8], at: &[u64], from: usize, count: usize) -> u8
+    requires few { count ≤ 8 }
+    requires there { from + count ≤ length at.now }
+    requires within { All (λ i. i < 8 * length source.now) at.now }
+    ensures { (k : ℕ) → k < count → is_set result k ≡ bit_of source.now (slice_index at.now (from + k)) }
+{
+    let mut byte = 0;
+    for j in 0..count {
+        let place = at[from + (count - 1 - j)] as usize;
+        byte = pushed(byte, bit_at(source, place));
+    }
+    byte
+}
+
+// The bits of a byte one place up, and below them this.
+fn pushed(byte: u8, bit: bool) -> u8
+    ensures { IsPushed byte bit result }
+{
+    byte << 1 | u8::from(bit)
+}
+
+// Each byte and the one at the same place of `which`.
+fn and_bytes(bytes: &mut [u8], which: &[u8])
+    requires { length which.now ≡ length bytes.old }
+    ensures masked { IsMasked bytes.old which.now bytes.new (length bytes.old) }
+    ensures len { length bytes.new ≡ length bytes.old }
+{
+    for i in 0..bytes.len() {
+        bytes[i] = bytes[i] & which[i];
+    }
 }

@@ -1,0 +1,360 @@
+-- What follows when truth values are made by whole bytes.
+use Rattle.std.proofs.Common.{◌≡◌, ◌≢◌, ◌∙◌, sym, ap, refl, ℕ, zero, suc, ◌+◌, ◌-◌, ◌*◌, ◌/◌, ◌%◌, ◌^◌, ◌<◌, ◌≤◌, List, [], ◌∷◌, ◌++◌, Bool, true, false, ◌&&◌, length, map, get_or, set, take, drop, replicate, All, bit_or, bit_and, nat_eq, min, max, subst, inl, inr, arith}
+use Rattle.std.proofs.lemmas.Bool.{cases_eq, cases_lt}
+use Rattle.std.proofs.lemmas.List.{get_or-set_same, get_or-set_other, get_or-replicate, get_or_append_left, get_or-append_right, get_or-map, length-append, length-map, length-replicate}
+use Rattle.std.proofs.lemmas.List.Elements.{All-get_or}
+use Rattle.std.proofs.lemmas.List.FromFn.{fill_by_all}
+use Rattle.std.proofs.lemmas.Nat.{shr-shr, pow_pos}
+use Rattle.std.proofs.lemmas.Nat.Bits.{bit_at-zero, bit_at-lt, bit_at_lowest, bit_at-suc, bit_at_above, bit_at_or, bit_at_and, bit_at_ones, bit_at_cat_low, bit_at_cat_high}
+use Rattle.std.specs.Int.{bit_at, from_bool}
+use Rattle.std.specs.List.{slice_range, range_with_len}
+use Rattle.sub_types.specs.Bits.{bit_of, bits_of}
+use Rattle.sub_types.specs.BitSteps.{is_set, both, IsMade, Continues, IsJoined, HoldsFrom, IsPushed, IsMasked}
+use Rattle.sub_types.specs.PartLaws.{length-part, get_or-part}
+use Rattle.sub_types.proofs.BitLaws.{length-bits_of, get_or-bits_of}
+
+-- ---- bits of one byte
+
+pub bit_at-right : (x s k : ℕ) → bit_at (x / 2 ^ s) k ≡ bit_at x (s + k)
+bit_at-right x s k = ap (λ y. y % 2) (shr-shr x s k)
+
+-- what a cut leaves of the bits below it
+pub bit_at-cut : (x k : ℕ) → k < 8 → bit_at (x % 256) k ≡ bit_at x k
+bit_at-cut x k lt =
+    let e : x ≡ x / 256 * 256 + x % 256 = omega arith in
+    sym (ap (λ y. bit_at y k) e ∙ bit_at_cat_low (x / 256) 8 (x % 256) k lt)
+
+bit_at-cut_above : (x k : ℕ) → 8 ≤ k → bit_at (x % 256) k ≡ 0
+bit_at-cut_above x k le = bit_at_above (x % 256) 8 k (omega arith) le
+
+shifted : (x s : ℕ) → x * 2 ^ s ≡ x * 2 ^ s + 0
+shifted x s = omega arith
+
+pub bit_at-left_below : (x s k : ℕ) → k < 8 → k < s → bit_at (x * 2 ^ s % 256) k ≡ 0
+bit_at-left_below x s k lt below = bit_at-cut (x * 2 ^ s) k lt ∙ ap (λ y. bit_at y k) (shifted x s) ∙ bit_at_cat_low x s 0 k below ∙ bit_at-zero k
+
+pub bit_at-left : (x s k : ℕ) → k < 8 → s ≤ k → bit_at (x * 2 ^ s % 256) k ≡ bit_at x (k - s)
+bit_at-left x s k lt from = bit_at-cut (x * 2 ^ s) k lt ∙ ap (λ y. bit_at y k) (shifted x s) ∙ bit_at_cat_high x s 0 k (pow_pos s) from
+
+-- the two bytes of a join: the low bits of one, the next above them
+pub join-low : (own next used free k : ℕ) → used + free ≡ 8 → k < used → bit_at (bit_or (own * 2 ^ free % 256 / 2 ^ free) (next * 2 ^ used % 256)) k ≡ bit_at own k
+join-low own next used free k sum lt =
+    let a : bit_at (own * 2 ^ free % 256 / 2 ^ free) k ≡ bit_at own (free + k - free) = bit_at-right (own * 2 ^ free % 256) free k ∙ bit_at-left own free (free + k) (omega arith) (omega arith) in
+    let b : bit_at (next * 2 ^ used % 256) k ≡ 0 = bit_at-left_below next used k (omega arith) lt in
+    let e : bit_at own (free + k - free) ≡ bit_at own k = ap (bit_at own) (omega arith) in
+    omega (arith, bit_at_or (own * 2 ^ free % 256 / 2 ^ free) (next * 2 ^ used % 256) k, a, b, e)
+
+pub join-high : (own next used free k : ℕ) → used + free ≡ 8 → used ≤ k → k < 8 → bit_at (bit_or (own * 2 ^ free % 256 / 2 ^ free) (next * 2 ^ used % 256)) k ≡ bit_at next (k - used)
+join-high own next used free k sum le lt =
+    let a : bit_at (own * 2 ^ free % 256 / 2 ^ free) k ≡ 0 = bit_at-right (own * 2 ^ free % 256) free k ∙ bit_at-cut_above (own * 2 ^ free) (free + k) (omega arith) in
+    let b : bit_at (next * 2 ^ used % 256) k ≡ bit_at next (k - used) = bit_at-left next used k lt le in
+    omega (arith, bit_at_or (own * 2 ^ free % 256 / 2 ^ free) (next * 2 ^ used % 256) k, a, b)
+
+pub IsJoined-bytes : (own next used free : ℕ) → used + free ≡ 8 → IsJoined own next used (bit_or (own * 2 ^ free % 256 / 2 ^ free) (next * 2 ^ used % 256))
+IsJoined-bytes own next used free sum =
+    record {
+      low = λ k lt. ap (λ bit. nat_eq bit 1) (join-low own next used free k sum lt);
+      high = λ k le lt. ap (λ bit. nat_eq bit 1) (join-high own next used free k sum le lt);
+    }
+
+-- eight bits from a whole byte on
+pub HoldsFrom-whole : (bytes : List ℕ) (at byte : ℕ) → at % 8 ≡ 0 → byte ≡ get_or bytes (at / 8) 0 → HoldsFrom bytes at byte
+HoldsFrom-whole bytes at byte whole e =
+    record {
+      holds = λ k lt.
+          let place : (at + k) / 8 ≡ at / 8 = omega arith in
+          let bit : (at + k) % 8 ≡ k = omega arith in
+          rw (place, bit, e) refl;
+    }
+
+-- eight bits out of two bytes
+pub HoldsFrom-two : (bytes : List ℕ) (at low high shift free : ℕ) → shift ≡ at % 8 → shift + free ≡ 8 → 0 < shift → low < 256 → low ≡ get_or bytes (at / 8) 0 → high ≡ get_or bytes (at / 8 + 1) 0 → HoldsFrom bytes at (bit_or (low / 2 ^ shift) (high * 2 ^ free % 256))
+HoldsFrom-two bytes at low high shift free is sum some small l h = record { holds = λ k lt. ap (λ bit. nat_eq bit 1) (each k lt) }
+  where
+    each : (k : ℕ) → k < 8 → bit_at (bit_or (low / 2 ^ shift) (high * 2 ^ free % 256)) k ≡ bit_at (get_or bytes ((at + k) / 8) 0) ((at + k) % 8)
+    each k lt = elim (cases_lt (shift + k) 8) [
+      | inl below ↦
+          let place : (at + k) / 8 ≡ at / 8 = omega arith in
+          let bit : (at + k) % 8 ≡ shift + k = omega arith in
+          let b : bit_at (high * 2 ^ free % 256) k ≡ 0 = bit_at-left_below high free k lt (omega arith) in
+          let e : bit_at (get_or bytes ((at + k) / 8) 0) ((at + k) % 8) ≡ bit_at low (shift + k) = rw (place, bit, l) refl in
+          omega (arith, bit_at_or (low / 2 ^ shift) (high * 2 ^ free % 256) k, bit_at-right low shift k, b, e)
+      | inr above ↦
+          let place : (at + k) / 8 ≡ at / 8 + 1 = omega arith in
+          let bit : (at + k) % 8 ≡ k - free = omega arith in
+          let a : bit_at low (shift + k) ≡ 0 = bit_at_above low 8 (shift + k) small above in
+          let e : bit_at (get_or bytes ((at + k) / 8) 0) ((at + k) % 8) ≡ bit_at high (k - free) = rw (place, bit, h) refl in
+          omega (arith, bit_at_or (low / 2 ^ shift) (high * 2 ^ free % 256) k, bit_at-right low shift k, a, bit_at-left high free k lt (omega arith), e)
+    ]
+
+-- ---- a byte of a list written over
+
+pub bit_of-set_same : (bytes : List ℕ) (i byte k : ℕ) → i < length bytes → k / 8 ≡ i → bit_of (set bytes i byte) k ≡ is_set byte (k % 8)
+bit_of-set_same bytes i byte k within e = ap (λ b. nat_eq (bit_at b (k % 8)) 1) (ap (λ j. get_or (set bytes i byte) j 0) e ∙ get_or-set_same bytes i byte 0 within)
+
+pub bit_of-set_other : (bytes : List ℕ) (i byte k : ℕ) → k / 8 ≢ i → bit_of (set bytes i byte) k ≡ bit_of bytes k
+bit_of-set_other bytes i byte k away = ap (λ b. nat_eq (bit_at b (k % 8)) 1) (get_or-set_other bytes i (k / 8) byte 0 away)
+
+-- ---- bits that go on with those of another list
+
+-- nothing to add
+pub Continues-none : (bytes more : List ℕ) (len from end : ℕ) → end ≤ len → Continues bytes bytes more len from end
+Continues-none bytes more len from end le = record { kept = λ k lt. refl; joined = λ j lt. absurd (omega arith) }
+
+-- the byte that the old bits end in
+pub Continues-first : (bytes more : List ℕ) (len from next byte : ℕ) → len / 8 < length bytes → HoldsFrom more from next → IsJoined (get_or bytes (len / 8) 0) next (len % 8) byte → Continues bytes (set bytes (len / 8) byte) more len from (8 * (len / 8 + 1))
+Continues-first bytes more len from next byte within h j = record { kept = kept; joined = joined }
+  where
+    kept : (k : ℕ) → k < len → bit_of (set bytes (len / 8) byte) k ≡ bit_of bytes k
+    kept k lt = elim (cases_eq (k / 8) (len / 8)) [
+      | inl e ↦ bit_of-set_same bytes (len / 8) byte k within e ∙ j.low (k % 8) (omega arith) ∙ ap (λ i. nat_eq (bit_at (get_or bytes i 0) (k % 8)) 1) (sym e)
+      | inr away ↦ bit_of-set_other bytes (len / 8) byte k away
+    ]
+
+    joined : (i : ℕ) → len + i < 8 * (len / 8 + 1) → bit_of (set bytes (len / 8) byte) (len + i) ≡ bit_of more (from + i)
+    joined i lt =
+        let here : (len + i) / 8 ≡ len / 8 = omega arith in
+        let place : from + ((len + i) % 8 - len % 8) ≡ from + i = omega arith in
+        bit_of-set_same bytes (len / 8) byte (len + i) within here
+        ∙ j.high ((len + i) % 8) (omega arith) (omega arith)
+        ∙ h.holds ((len + i) % 8 - len % 8) (omega arith)
+        ∙ ap (bit_of more) place
+
+-- a whole byte more
+pub Continues-more : (old new more : List ℕ) (len from i byte : ℕ) → Continues old new more len from (8 * i) → len ≤ 8 * i → i < length new → HoldsFrom more (from + (8 * i - len)) byte → Continues old (set new i byte) more len from (8 * (i + 1))
+Continues-more old new more len from i byte c after within h = record { kept = kept; joined = joined }
+  where
+    kept : (k : ℕ) → k < len → bit_of (set new i byte) k ≡ bit_of old k
+    kept k lt =
+        let away : k / 8 ≢ i = λ e. absurd (omega arith) in
+        bit_of-set_other new i byte k away ∙ c.kept k lt
+
+    joined : (j : ℕ) → len + j < 8 * (i + 1) → bit_of (set new i byte) (len + j) ≡ bit_of more (from + j)
+    joined j lt = elim (cases_lt (len + j) (8 * i)) [
+      | inl below ↦
+          let away : (len + j) / 8 ≢ i = λ e. absurd (omega arith) in
+          bit_of-set_other new i byte (len + j) away ∙ c.joined j below
+      | inr above ↦
+          let here : (len + j) / 8 ≡ i = omega arith in
+          let place : from + (8 * i - len) + (len + j) % 8 ≡ from + j = omega arith in
+          bit_of-set_same new i byte (len + j) within here ∙ h.holds ((len + j) % 8) (omega arith) ∙ ap (bit_of more) place
+    ]
+
+-- up to a place before
+pub Continues-less : (old new more : List ℕ) (len from a b : ℕ) → b ≤ a → Continues old new more len from a → Continues old new more len from b
+Continues-less old new more len from a b le c = record { kept = c.kept; joined = λ j lt. c.joined j (omega arith) }
+
+-- zeros behind the old bytes change none of their bits
+pub Continues-over : (old middle new more : List ℕ) (len from end : ℕ) → ((k : ℕ) → k < len → bit_of middle k ≡ bit_of old k) → Continues middle new more len from end → Continues old new more len from end
+Continues-over old middle new more len from end same c = record { kept = λ k lt. c.kept k lt ∙ same k lt; joined = c.joined }
+
+pub bit_of-front : (old back : List ℕ) (k : ℕ) → k < 8 * length old → bit_of (old ++ back) k ≡ bit_of old k
+bit_of-front old back k lt = ap (λ b. nat_eq (bit_at b (k % 8)) 1) (get_or_append_left old back 0 (k / 8) (omega arith))
+
+-- whole bytes that were copied
+pub Continues-copied : (old more copied : List ℕ) (len from end : ℕ) → len ≡ 8 * length old → from % 8 ≡ 0 → ((k : ℕ) → k < length copied → get_or copied k 0 ≡ get_or more (from / 8 + k) 0) → end ≤ len + 8 * length copied → Continues old (old ++ copied) more len from end
+Continues-copied old more copied len from end whole aligned same le = record { kept = λ k lt. bit_of-front old copied k (omega arith); joined = joined }
+  where
+    joined : (j : ℕ) → len + j < end → bit_of (old ++ copied) (len + j) ≡ bit_of more (from + j)
+    joined j lt =
+        let bit : (len + j) % 8 ≡ (from + j) % 8 = omega arith in
+        let first : length old ≤ (len + j) / 8 = omega arith in
+        let place : (len + j) / 8 - length old ≡ j / 8 = omega arith in
+        let there : from / 8 + j / 8 ≡ (from + j) / 8 = omega arith in
+        let byte : get_or (old ++ copied) ((len + j) / 8) 0 ≡ get_or more ((from + j) / 8) 0 =
+        get_or-append_right old copied (length old) ((len + j) / 8) 0 refl first
+        ∙ ap (λ i. get_or copied i 0) place ∙ same (j / 8) (omega arith) ∙ ap (λ i. get_or more i 0) there in
+        ap (λ b. nat_eq (bit_at b ((len + j) % 8)) 1) byte ∙ ap (λ i. nat_eq (bit_at (get_or more ((from + j) / 8) 0) i) 1) bit
+
+-- and as lists
+pub Continues-view : (old new more : List ℕ) (n m from to : ℕ) → from ≤ to → to ≤ m → Continues old new more n from (n + (to - from)) → bits_of (n + (to - from)) new ≡ bits_of n old ++ slice_range (bits_of m more) from to
+Continues-view old new more n m from to rising within c = sym (fill_by_all (bit_of new) (bits_of n old ++ part) (n + (to - from)) false long each)
+  where
+    part : List Bool
+    part = slice_range (bits_of m more) from to
+
+    long : length (bits_of n old ++ part) ≡ n + (to - from)
+    long =
+        let fits : to ≤ length (bits_of m more) = omega (arith, length-bits_of m more) in
+        omega (arith, length-append (bits_of n old) part, length-bits_of n old, length-part (bits_of m more) from to fits)
+
+    each : (k : ℕ) → k < n + (to - from) → get_or (bits_of n old ++ part) k false ≡ bit_of new k
+    each k lt = elim (cases_lt k n) [
+      | inl below ↦
+          let in_front : k < length (bits_of n old) = omega (arith, length-bits_of n old) in
+          get_or_append_left (bits_of n old) part false k in_front ∙ get_or-bits_of n old k false below ∙ sym (c.kept k below)
+      | inr above ↦
+          let place : n + (k - n) ≡ k = omega arith in
+          get_or-append_right (bits_of n old) part n k false (length-bits_of n old) above
+          ∙ get_or-part (bits_of m more) from to (k - n) false (omega arith)
+          ∙ get_or-bits_of m more (from + (k - n)) false (omega arith)
+          ∙ sym (c.joined (k - n) (omega arith))
+          ∙ ap (bit_of new) place
+    ]
+
+pub append_view : (old new read more : List ℕ) (n m grown from to : ℕ) (front whole : List Bool) → read ≡ more → grown ≡ n + (to - from) → bits_of n old ≡ front → bits_of m more ≡ whole → from ≤ to → to ≤ length whole → Continues old new read n from grown → bits_of grown new ≡ front ++ slice_range whole from to
+append_view old new read more n m grown from to front whole same end old_is more_is rising within c =
+    let fits : to ≤ m = omega (arith, ap length more_is, length-bits_of m more) in
+    let joined : Continues old new more n from (n + (to - from)) = subst (λ e. Continues old new more n from e) end (subst (λ bytes. Continues old new bytes n from grown) same c) in
+    ap (λ k. bits_of k new) end
+    ∙ Continues-view old new more n m from to rising fits joined
+    ∙ ap (λ bits. bits ++ slice_range (bits_of m more) from to) old_is
+    ∙ ap (λ bits. front ++ slice_range bits from to) more_is
+
+-- ---- bits that a function gives
+
+pub IsMade-none : (f : ℕ → Bool) (n : ℕ) (bytes : List ℕ) → IsMade f n bytes 0
+IsMade-none f n bytes = record { made = λ k lt small. absurd (omega arith) }
+
+pub IsMade-more : (f : ℕ → Bool) (n : ℕ) (bytes : List ℕ) (i byte : ℕ) → IsMade f n bytes i → i < length bytes → ((k : ℕ) → k < 8 → 8 * i + k < n → is_set byte k ≡ f (8 * i + k)) → IsMade f n (set bytes i byte) (i + 1)
+IsMade-more f n bytes i byte m within right = record { made = each }
+  where
+    each : (k : ℕ) → k < 8 * (i + 1) → k < n → bit_of (set bytes i byte) k ≡ f k
+    each k lt small = elim (cases_lt k (8 * i)) [
+      | inl below ↦
+          let away : k / 8 ≢ i = λ e. absurd (omega arith) in
+          bit_of-set_other bytes i byte k away ∙ m.made k below small
+      | inr above ↦
+          let here : k / 8 ≡ i = omega arith in
+          let place : 8 * i + k % 8 ≡ k = omega arith in
+          bit_of-set_same bytes i byte k within here ∙ right (k % 8) (omega arith) (omega arith) ∙ ap f place
+    ]
+
+pub IsMade-all : (f : ℕ → Bool) (n : ℕ) (bytes : List ℕ) (i : ℕ) → n ≤ 8 * i → IsMade f n bytes i → bits_of n bytes ≡ map f (range_with_len 0 n)
+IsMade-all f n bytes i le m = fill_by_all f (bits_of n bytes) n false (length-bits_of n bytes) (λ k lt. get_or-bits_of n bytes k false lt ∙ m.made k (omega arith) lt)
+
+-- the bits at places of another list
+pub IsMade-picked : (source : List ℕ) (len : ℕ) (at bytes : List ℕ) (i : ℕ) → length at ≤ 8 * i → All (λ p. p < len) at → IsMade (λ k. bit_of source (get_or at k 0)) (length at) bytes i → bits_of (length at) bytes ≡ map (λ p. get_or (bits_of len source) p false) at
+IsMade-picked source len at bytes i le within m = sym (fill_by_all (bit_of bytes) (map (λ p. get_or (bits_of len source) p false) at) (length at) false (length-map at (λ p. get_or (bits_of len source) p false)) each)
+  where
+    each : (k : ℕ) → k < length at → get_or (map (λ p. get_or (bits_of len source) p false) at) k false ≡ bit_of bytes k
+    each k lt =
+        get_or-map (λ p. get_or (bits_of len source) p false) at k 0 false lt
+        ∙ get_or-bits_of len source (get_or at k 0) false (All-get_or (λ p. p < len) at k 0 lt within)
+        ∙ sym (m.made k (omega arith) lt)
+
+pub gather_view : (read source at bytes : List ℕ) (len i : ℕ) (whole : List Bool) → read ≡ source → bits_of len source ≡ whole → All (λ p. p < length whole) at → length at ≤ 8 * i → IsMade (λ k. bit_of read (get_or at k 0)) (length at) bytes i → bits_of (length at) bytes ≡ map (λ p. get_or whole p false) at
+gather_view read source at bytes len i whole same whole_is within le m =
+    let long : length whole ≡ len = sym (ap length whole_is) ∙ length-bits_of len source in
+    IsMade-picked source len at bytes i le (subst (λ n. All (λ p. p < n) at) long within) (subst (λ from. IsMade (λ k. bit_of from (get_or at k 0)) (length at) bytes i) same m)
+    ∙ ap (λ bits. map (λ p. get_or bits p false) at) whole_is
+
+-- one bit comes in below
+pub IsPushed-byte : (byte bit : ℕ) (b : Bool) → bit < 2 → nat_eq bit 1 ≡ b → IsPushed byte b (bit_or (byte * 2 ^ 1 % 256) bit)
+IsPushed-byte byte bit b small e = record { lowest = lowest; moved = λ k lt. ap (λ x. nat_eq x 1) (moved k lt) }
+  where
+    lowest : is_set (bit_or (byte * 2 ^ 1 % 256) bit) 0 ≡ b
+    lowest =
+        let own : bit_at bit 0 ≡ bit = bit_at_lowest bit ∙ omega arith in
+        let zero_there : bit_at (byte * 2 ^ 1 % 256) 0 ≡ 0 = bit_at-left_below byte 1 0 (omega arith) (omega arith) in
+        let at : bit_at (bit_or (byte * 2 ^ 1 % 256) bit) 0 ≡ bit = omega (arith, bit_at_or (byte * 2 ^ 1 % 256) bit 0, own, zero_there) in
+        ap (λ x. nat_eq x 1) at ∙ e
+
+    moved : (k : ℕ) → k < 7 → bit_at (bit_or (byte * 2 ^ 1 % 256) bit) (k + 1) ≡ bit_at byte k
+    moved k lt =
+        let none : bit_at bit (k + 1) ≡ 0 = bit_at_above bit 1 (k + 1) small (omega arith) in
+        let up : bit_at (byte * 2 ^ 1 % 256) (k + 1) ≡ bit_at byte k = bit_at-left byte 1 (k + 1) (omega arith) (omega arith) ∙ ap (bit_at byte) (omega arith) in
+        omega (arith, bit_at_or (byte * 2 ^ 1 % 256) bit (k + 1), none, up)
+
+pub IsPushed-bit : (byte bit : ℕ) (b : Bool) → bit ≡ from_bool b → IsPushed byte b (bit_or (byte * 2 % 256) bit)
+IsPushed-bit byte bit true e = rw e (IsPushed-byte byte 1 true (omega arith) refl)
+IsPushed-bit byte bit false e = rw e (IsPushed-byte byte 0 false (omega arith) refl)
+
+pub IsPushed-same : (old : ℕ) (a b : Bool) (new : ℕ) → a ≡ b → IsPushed old a new → IsPushed old b new
+IsPushed-same old a b new e p = subst (λ x. IsPushed old x new) e p
+
+-- so far the last j of count bits were pushed
+pub pushed_more : (f : ℕ → Bool) (count j byte new : ℕ) → count ≤ 8 → j < count → IsPushed byte (f (count - 1 - j)) new → ((m : ℕ) → m < j → is_set byte m ≡ f (count - j + m)) → (m : ℕ) → m < j + 1 → is_set new m ≡ f (count - (j + 1) + m)
+pushed_more f count j byte new few lt p sofar zero below = p.lowest ∙ ap f (omega arith)
+pushed_more f count j byte new few lt p sofar (suc m) below =
+    let e : suc m ≡ m + 1 = omega arith in
+    ap (is_set new) e ∙ p.moved m (omega arith) ∙ sofar m (omega arith) ∙ ap f (omega arith)
+
+-- ---- masks
+
+pub length-both : (xs ys : List Bool) → length xs ≡ length ys → length (both xs ys) ≡ length xs
+length-both [] ys e = refl
+length-both (x ∷ xs) [] e = absurd (omega arith)
+length-both (x ∷ xs) (y ∷ ys) e = ap suc (length-both xs ys (omega arith))
+
+pub get_or-both : (xs ys : List Bool) (k : ℕ) → k < length xs → length xs ≡ length ys → get_or (both xs ys) k false ≡ (get_or xs k false && get_or ys k false)
+get_or-both [] ys k lt e = absurd (omega arith)
+get_or-both (x ∷ xs) [] k lt e = absurd (omega arith)
+get_or-both (x ∷ xs) (y ∷ ys) zero lt e = refl
+get_or-both (x ∷ xs) (y ∷ ys) (suc k) lt e = get_or-both xs ys k (omega arith) (omega arith)
+
+min_and : (a b : ℕ) → a < 2 → b < 2 → nat_eq (min a b) 1 ≡ (nat_eq a 1 && nat_eq b 1)
+min_and zero zero s t = refl
+min_and zero (suc zero) s t = refl
+min_and (suc zero) zero s t = refl
+min_and (suc zero) (suc zero) s t = refl
+min_and (suc (suc a)) b s t = absurd (omega arith)
+min_and zero (suc (suc b)) s t = absurd (omega arith)
+min_and (suc zero) (suc (suc b)) s t = absurd (omega arith)
+
+pub is_set-and : (a b k : ℕ) → is_set (bit_and a b) k ≡ (is_set a k && is_set b k)
+is_set-and a b k = ap (λ x. nat_eq x 1) (bit_at_and a b k) ∙ min_and (bit_at a k) (bit_at b k) (bit_at-lt a k) (bit_at-lt b k)
+
+pub IsMasked-none : (old which : List ℕ) → IsMasked old which old 0
+IsMasked-none old which = record { masked = λ k lt. absurd (omega arith); rest = λ k le. refl }
+
+pub IsMasked-more : (old which new : List ℕ) (i : ℕ) → i < length new → IsMasked old which new i → IsMasked old which (set new i (bit_and (get_or new i 0) (get_or which i 0))) (i + 1)
+IsMasked-more old which new i within m = record { masked = masked; rest = rest }
+  where
+    byte : ℕ
+    byte = bit_and (get_or new i 0) (get_or which i 0)
+
+    masked : (k : ℕ) → k < 8 * (i + 1) → bit_of (set new i byte) k ≡ (bit_of old k && bit_of which k)
+    masked k lt = elim (cases_lt k (8 * i)) [
+      | inl below ↦
+          let away : k / 8 ≢ i = λ e. absurd (omega arith) in
+          bit_of-set_other new i byte k away ∙ m.masked k below
+      | inr above ↦
+          let here : k / 8 ≡ i = omega arith in
+          bit_of-set_same new i byte k within here
+          ∙ is_set-and (get_or new i 0) (get_or which i 0) (k % 8)
+          ∙ ap (λ j. nat_eq (bit_at (get_or new j 0) (k % 8)) 1 && nat_eq (bit_at (get_or which j 0) (k % 8)) 1) (sym here)
+          ∙ ap (λ x. x && bit_of which k) (m.rest k above)
+    ]
+
+    rest : (k : ℕ) → 8 * (i + 1) ≤ k → bit_of (set new i byte) k ≡ bit_of old k
+    rest k le =
+        let away : k / 8 ≢ i = λ e. absurd (omega arith) in
+        bit_of-set_other new i byte k away ∙ m.rest k (omega arith)
+
+pub IsMasked-view : (old which new : List ℕ) (n i : ℕ) → n ≤ 8 * i → IsMasked old which new i → bits_of n new ≡ both (bits_of n old) (bits_of n which)
+IsMasked-view old which new n i le m = sym (fill_by_all (bit_of new) (both (bits_of n old) (bits_of n which)) n false long each)
+  where
+    same : length (bits_of n old) ≡ length (bits_of n which)
+    same = length-bits_of n old ∙ sym (length-bits_of n which)
+
+    long : length (both (bits_of n old) (bits_of n which)) ≡ n
+    long = length-both (bits_of n old) (bits_of n which) same ∙ length-bits_of n old
+
+    each : (k : ℕ) → k < n → get_or (both (bits_of n old) (bits_of n which)) k false ≡ bit_of new k
+    each k lt =
+        let within : k < length (bits_of n old) = omega (arith, length-bits_of n old) in
+        get_or-both (bits_of n old) (bits_of n which) k within same
+        ∙ ap (λ x. x && get_or (bits_of n which) k false) (get_or-bits_of n old k false lt)
+        ∙ ap (λ y. bit_of old k && y) (get_or-bits_of n which k false lt)
+        ∙ sym (m.masked k (omega arith))
+
+pub mask_view : (old which read_old read_which new : List ℕ) (n k : ℕ) (xs ys : List Bool) → read_old ≡ old → read_which ≡ which → bits_of n old ≡ xs → bits_of k which ≡ ys → k ≡ n → n ≤ 8 * length read_old → IsMasked read_old read_which new (length read_old) → bits_of n new ≡ both xs ys
+mask_view old which read_old read_which new n k xs ys same_old same_which xs_is ys_is long le m =
+    IsMasked-view read_old read_which new n (length read_old) le m
+    ∙ ap (λ bytes. both (bits_of n bytes) (bits_of n read_which)) same_old
+    ∙ ap (λ bytes. both (bits_of n old) (bits_of n bytes)) same_which
+    ∙ ap (λ j. both (bits_of n old) (bits_of j which)) (sym long)
+    ∙ ap (λ bits. both bits (bits_of k which)) xs_is
+    ∙ ap (both xs) ys_is
+
+-- ---- all true
+
+is_set-255 : (r : ℕ) → r < 8 → is_set 255 r ≡ true
+is_set-255 r lt = ap (λ x. nat_eq x 1) (bit_at_ones 8 r lt)
+
+pub ones-bits_of : (n count : ℕ) → n ≤ 8 * count → bits_of n (replicate count 255) ≡ replicate n true
+ones-bits_of n count enough = sym (fill_by_all (bit_of (replicate count 255)) (replicate n true) n false (length-replicate n true) each)
+  where
+    each : (k : ℕ) → k < n → get_or (replicate n true) k false ≡ bit_of (replicate count 255) k
+    each k lt = get_or-replicate n k true false lt ∙ sym (ap (λ b. nat_eq (bit_at b (k % 8)) 1) (get_or-replicate count (k / 8) 255 0 (omega arith)) ∙ is_set-255 (k % 8) (omega arith))
