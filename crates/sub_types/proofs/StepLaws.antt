@@ -1,11 +1,14 @@
 -- What follows when truth values are made by whole bytes.
-use Rattle.std.proofs.Common.{◌≡◌, ◌≢◌, ◌∙◌, sym, ap, refl, ℕ, zero, suc, ◌+◌, ◌-◌, ◌*◌, ◌/◌, ◌%◌, ◌^◌, ◌<◌, ◌≤◌, List, [], ◌∷◌, ◌++◌, Bool, true, false, ◌&&◌, length, map, get_or, set, take, drop, replicate, All, bit_or, bit_and, nat_eq, min, max, subst, inl, inr, arith}
-use Rattle.std.proofs.lemmas.Bool.{cases_eq, cases_lt}
-use Rattle.std.proofs.lemmas.List.{get_or-set_same, get_or-set_other, get_or-replicate, get_or_append_left, get_or-append_right, get_or-map, length-append, length-map, length-replicate}
+use Rattle.std.proofs.Common.{◌≡◌, ◌≢◌, ◌∙◌, sym, ap, refl, ℕ, zero, suc, ◌+◌, ◌-◌, ◌*◌, ◌/◌, ◌%◌, ◌^◌, ◌<◌, ◌≤◌, List, [], ◌∷◌, ◌++◌, Bool, true, false, ◌&&◌, length, map, get_or, set, replicate, All, bit_or, bit_and, count_ones, count_by, cond, ◌↔◌, IsTrue, nat_eq, min, subst, inl, inr, arith}
+use Rattle.std.proofs.lemmas.Bool.{cases_eq, cases_lt, eqb-true, eq-eqb}
+use Rattle.std.proofs.lemmas.List.{get_or-set_same, get_or-set_other, get_or-replicate, get_or_append_left, get_or-append_right, get_or-map, length-append, length-map, length-replicate, get_or_past}
 use Rattle.std.proofs.lemmas.List.Elements.{All-get_or}
-use Rattle.std.proofs.lemmas.List.FromFn.{fill_by_all}
+use Rattle.std.proofs.lemmas.List.FromFn.{fill_by_all, length-range_with_len, length-map-range_with_len, get_or-map-range_with_len}
+use Rattle.std.proofs.lemmas.List.Sums.{sum_by-cons, sum_by-append, count_by-le-length}
+use Rattle.std.proofs.lemmas.Simd.{bit_mask_l, ones-mask_l}
+use Rattle.std.specs.Simd.Lanes.{mask_l}
 use Rattle.std.proofs.lemmas.Nat.{shr-shr, pow_pos}
-use Rattle.std.proofs.lemmas.Nat.Bits.{bit_at-zero, bit_at-lt, bit_at_lowest, bit_at-suc, bit_at_above, bit_at_or, bit_at_and, bit_at_ones, bit_at_cat_low, bit_at_cat_high}
+use Rattle.std.proofs.lemmas.Nat.Bits.{bit_at-zero, bit_at-lt, bit_at_lowest, bit_at_above, bit_at_or, bit_at_and, bit_at_ones, bit_at_ones_above, same_from_bits, bit_at_cat_low, bit_at_cat_high}
 use Rattle.std.specs.Int.{bit_at, from_bool}
 use Rattle.std.specs.List.{slice_range, range_with_len}
 use Rattle.sub_types.specs.Bits.{bit_of, bits_of}
@@ -358,3 +361,96 @@ ones-bits_of n count enough = sym (fill_by_all (bit_of (replicate count 255)) (r
   where
     each : (k : ℕ) → k < n → get_or (replicate n true) k false ≡ bit_of (replicate count 255) k
     each k lt = get_or-replicate n k true false lt ∙ sym (ap (λ b. nat_eq (bit_at b (k % 8)) 1) (get_or-replicate count (k / 8) 255 0 (omega arith)) ∙ is_set-255 (k % 8) (omega arith))
+
+-- ---- how many are true
+
+range-append : (a n m : ℕ) → range_with_len a (n + m) ≡ range_with_len a n ++ range_with_len (a + n) m
+range-append a zero m =
+    let e : 0 + m ≡ m = omega arith in
+    let s : a ≡ a + 0 = omega arith in
+    ap (range_with_len a) e ∙ ap (λ k. range_with_len k m) s
+range-append a (suc n) m =
+    let e : suc n + m ≡ suc (n + m) = omega arith in
+    let s : a + 1 + n ≡ a + suc n = omega arith in
+    ap (range_with_len a) e ∙ ap (λ l. a ∷ l) (range-append (a + 1) n m ∙ ap (λ k. range_with_len (a + 1) n ++ range_with_len k m) s)
+
+-- two functions that agree on two ranges hold as often
+count-same : (p q : ℕ → Bool) (a b m : ℕ) → ((k : ℕ) → k < m → p (a + k) ≡ q (b + k)) → count_by p (range_with_len a m) ≡ count_by q (range_with_len b m)
+count-same p q a b zero same = refl
+count-same p q a b (suc m) same =
+    let here : p a ≡ q b = ap p (omega arith) ∙ same 0 (omega arith) ∙ ap q (omega arith) in
+    let more : (k : ℕ) → k < m → p (a + 1 + k) ≡ q (b + 1 + k) = λ k lt. ap p (omega arith) ∙ same (k + 1) (omega arith) ∙ ap q (omega arith) in
+    sum_by-cons (λ x. cond (p x) 1 0) a (range_with_len (a + 1) m)
+    ∙ ap (λ x. cond x 1 0 + count_by p (range_with_len (a + 1) m)) here
+    ∙ ap (λ n. cond (q b) 1 0 + n) (count-same p q (a + 1) (b + 1) m more)
+    ∙ sym (sum_by-cons (λ x. cond (q x) 1 0) b (range_with_len (b + 1) m))
+
+-- the bits of one byte more
+pub count-more : (bytes : List ℕ) (i m byte : ℕ) → m ≤ 8 → byte ≡ get_or bytes i 0 → count_by (bit_of bytes) (range_with_len 0 (8 * i + m)) ≡ count_by (bit_of bytes) (range_with_len 0 (8 * i)) + count_by (is_set byte) (range_with_len 0 m)
+count-more bytes i m byte few e =
+    let same : (k : ℕ) → k < m → bit_of bytes (8 * i + k) ≡ is_set byte (0 + k) = λ k lt.
+    let place : (8 * i + k) / 8 ≡ i = omega arith in
+    let bit : (8 * i + k) % 8 ≡ 0 + k = omega arith in
+    rw (place, bit, e) refl
+    in
+    ap (count_by (bit_of bytes)) (range-append 0 (8 * i) m)
+    ∙ sum_by-append (λ k. cond (bit_of bytes k) 1 0) (range_with_len 0 (8 * i)) (range_with_len (0 + 8 * i) m)
+    ∙ ap (λ n. count_by (bit_of bytes) (range_with_len 0 (8 * i)) + n) (ap (λ s. count_by (bit_of bytes) (range_with_len s m)) (omega arith) ∙ count-same (bit_of bytes) (is_set byte) (8 * i) 0 m same)
+
+as_number : (x : ℕ) → x < 2 → cond (nat_eq x 1) 1 0 ≡ x
+as_number zero small = refl
+as_number (suc zero) small = refl
+as_number (suc (suc x)) small = absurd (omega arith)
+
+-- the first bits of a byte alone
+first_alone : (byte n free : ℕ) → n + free ≡ 8 → bit_and byte (255 / 2 ^ free) ≡ mask_l (map (is_set byte) (range_with_len 0 n))
+first_alone byte n free sum = same_from_bits (bit_and byte (255 / 2 ^ free)) (mask_l (map (is_set byte) (range_with_len 0 n))) each
+  where
+    bits : List Bool
+    bits = map (is_set byte) (range_with_len 0 n)
+
+    each : (i : ℕ) → bit_at (bit_and byte (255 / 2 ^ free)) i ≡ bit_at (mask_l bits) i
+    each i = elim (cases_lt i n) [
+      | inl below ↦
+          let one : bit_at (255 / 2 ^ free) i ≡ 1 = bit_at-right 255 free i ∙ bit_at_ones 8 (free + i) (omega arith) in
+          let own : bit_at (bit_and byte (255 / 2 ^ free)) i ≡ bit_at byte i = omega (arith, bit_at_and byte (255 / 2 ^ free) i, one, bit_at-lt byte i) in
+          own ∙ sym (bit_mask_l bits i ∙ ap (λ b. cond b 1 0) (get_or-map-range_with_len (is_set byte) 0 n i i false below (omega arith)) ∙ as_number (bit_at byte i) (bit_at-lt byte i))
+      | inr above ↦
+          let none : bit_at (255 / 2 ^ free) i ≡ 0 = bit_at-right 255 free i ∙ bit_at_ones_above 8 (free + i) (omega arith) in
+          let own : bit_at (bit_and byte (255 / 2 ^ free)) i ≡ 0 = omega (arith, bit_at_and byte (255 / 2 ^ free) i, none) in
+          own ∙ sym (bit_mask_l bits i ∙ ap (λ b. cond b 1 0) (get_or_past bits i false (omega (arith, length-map-range_with_len (is_set byte) 0 n))))
+    ]
+
+pub count_ones-first : (byte n free : ℕ) → n + free ≡ 8 → count_ones (bit_and byte (255 / 2 ^ free)) ≡ count_by (is_set byte) (range_with_len 0 n)
+count_ones-first byte n free sum = ap count_ones (first_alone byte n free sum) ∙ ones-mask_l (is_set byte) (range_with_len 0 n)
+
+count-map : {X : Type 0} (p : X → Bool) (xs : List X) → count_by (λ b. b) (map p xs) ≡ count_by p xs
+count-map p [] = refl
+count-map p (x ∷ xs) =
+    sum_by-cons (λ b. cond b 1 0) (p x) (map p xs)
+    ∙ ap (λ n. cond (p x) 1 0 + n) (count-map p xs)
+    ∙ sym (sum_by-cons (λ y. cond (p y) 1 0) x xs)
+
+pub count_view : (bytes : List ℕ) (n : ℕ) (bits : List Bool) → bits_of n bytes ≡ bits → count_by (bit_of bytes) (range_with_len 0 n) ≡ count_by (λ b. b) bits
+count_view bytes n bits e = sym (count-map (bit_of bytes) (range_with_len 0 n)) ∙ ap (count_by (λ b. b)) e
+
+pub count-at_most : (p : ℕ → Bool) (n : ℕ) → count_by p (range_with_len 0 n) ≤ n
+count-at_most p n = omega (arith, count_by-le-length p (range_with_len 0 n), length-range_with_len 0 n)
+
+count-true : (bits : List Bool) → count_by (λ b. b) (true ∷ bits) ≡ suc (count_by (λ b. b) bits)
+count-true bits = sum_by-cons (λ b. cond b 1 0) true bits ∙ omega arith
+
+count-false : (bits : List Bool) → count_by (λ b. b) (false ∷ bits) ≡ count_by (λ b. b) bits
+count-false bits = sum_by-cons (λ b. cond b 1 0) false bits ∙ omega arith
+
+all_counted : (bits : List Bool) → count_by (λ b. b) bits ≡ length bits → bits ≡ replicate (length bits) true
+all_counted [] e = refl
+all_counted (true ∷ bits) e = ap (λ l. true ∷ l) (all_counted bits (omega (arith, count-true bits, e)))
+all_counted (false ∷ bits) e = absurd (omega (arith, e, count-false bits, count_by-le-length (λ b. b) bits))
+
+counted_all : (n : ℕ) → count_by (λ b. b) (replicate n true) ≡ n
+counted_all zero = refl
+counted_all (suc n) = count-true (replicate n true) ∙ ap suc (counted_all n)
+
+pub is_all_view : (bits : List Bool) (count n : ℕ) → count ≡ count_by (λ b. b) bits → length bits ≡ n → IsTrue (nat_eq count n) ↔ (bits ≡ replicate (length bits) true)
+is_all_view bits count n e long = (λ same. all_counted bits (sym e ∙ eqb-true count n same ∙ sym long), λ all. eq-eqb count n (e ∙ ap (count_by (λ b. b)) all ∙ counted_all (length bits) ∙ long))

@@ -1,5 +1,5 @@
 -- Truth values made by whole bytes: what one byte is, and what a loop over bytes has reached.
-use Rattle.std.specs.Prelude.{◌≡◌, ℕ, ◌+◌, ◌-◌, ◌*◌, ◌<◌, ◌≤◌, ◌==◌, ◌&&◌, List, [], ◌∷◌, Bool, false, slice_index}
+use Rattle.std.specs.Prelude.{◌≡◌, ℕ, ◌+◌, ◌-◌, ◌*◌, ◌<◌, ◌≤◌, ◌==◌, ◌&&◌, List, [], ◌∷◌, Bool}
 use Rattle.std.specs.Int.{bit_at}
 use Rattle.sub_types.specs.Bits.{bit_of}
 

@@ -1,5 +1,5 @@
 -- What follows of values beside their validity.
-use Rattle.std.proofs.Common.{◌≡◌, ℕ, zero, suc, ◌<◌, List, [], ◌∷◌, ◌++◌, length, map, get_or, set, Bool, true, false, Option, Some, None, is_some, refl, ap, arith}
+use Rattle.std.proofs.Common.{◌≡◌, ℕ, zero, suc, List, [], ◌∷◌, ◌++◌, length, map, get_or, set, Bool, true, false, Some, None, is_some, refl, ap, arith}
 use Rattle.sub_types.specs.Optional.{optional}
 
 -- there are as many optional values as values

@@ -1,7 +1,7 @@
 -- What follows of a part of a list: its length, its places, its own parts.
-use Rattle.std.proofs.Common.{rules, ◌≡◌, ◌∙◌, ℕ, ◌+◌, ◌-◌, ◌<◌, ◌≤◌, List, [], ◌∷◌, ◌++◌, length, map, get_or, take, drop, refl, sym, ap, arith}
+use Rattle.std.proofs.Common.{◌≡◌, ◌∙◌, ℕ, ◌+◌, ◌-◌, ◌<◌, ◌≤◌, List, [], ◌∷◌, ◌++◌, length, map, get_or, take, drop, ap, arith}
 use Rattle.std.specs.List.{slice_range}
-use Rattle.std.proofs.lemmas.List.{places, same_lists, length-take, length-drop, take-map, drop-map, get_or-take, get_or-drop, take_more, take-take, drop-drop}
+use Rattle.std.proofs.lemmas.List.{places, same_lists, length-take, length-drop, take-map, drop-map, get_or-take, get_or-drop, take_more}
 
 -- how long it is
 pub length-part : {X : Type 0} (xs : List X) (from to : ℕ) → to ≤ length xs → length (slice_range xs from to) ≡ to - from

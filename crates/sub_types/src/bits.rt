@@ -1,6 +1,6 @@
 // Truth values, packed eight to a byte, the least bit first, as the Arrow columnar format lays out a bitmap.
-ghost use Rattle.std.specs.Prelude.{◌≡◌, ◌≢◌, ◌+◌, ◌*◌, ◌<◌, ◌≤◌, ℕ, List, [], ◌∷◌, ◌++◌, true, false, length, take, replicate, slice_set, slice_index, slice_index_or, ◌/◌, ◌%◌, ◌^◌, map, All, OnOk, OnErr, IfOk, IsTrue, ◌↔◌};
-ghost use Rattle.std.specs.List.{slice_range};
+ghost use Rattle.std.specs.Prelude.{◌≡◌, ◌≢◌, ◌+◌, ◌*◌, ◌<◌, ◌≤◌, ℕ, List, [], ◌∷◌, ◌++◌, true, false, length, take, replicate, slice_set, slice_index, slice_index_or, ◌/◌, ◌%◌, ◌^◌, map, All, count_by, OnOk, OnErr, IfOk, IsTrue, ◌↔◌};
+ghost use Rattle.std.specs.List.{slice_range, range_with_len};
 ghost use Rattle.sub_types.specs.Bits.{bit_of, bits_of, IsPacked};
 ghost use Rattle.sub_types.specs.BitSteps.{is_set, both, IsMade, Continues, IsJoined, HoldsFrom, IsPushed, IsMasked};
 
@@ -156,6 +156,20 @@ impl Bits {
         ensures { self.new ≡ both self.old which.now }
     {
         and_bytes(&mut self.bytes, &which.bytes);
+    }
+
+    /// How many are true.
+    pub fn count(&self) -> usize
+        ensures { result ≡ count_by (λ b. b) self.now }
+    {
+        count_bits(&self.bytes, self.len)
+    }
+
+    /// Whether all are true.
+    pub fn is_all(&self) -> bool
+        ensures { IsTrue result ↔ (self.now ≡ replicate (length self.now) true) }
+    {
+        self.count() == self.len
     }
 
     /// Keeps the first `n`, or all where there are fewer.
@@ -371,4 +385,29 @@ fn and_bytes(bytes: &mut [u8], which: &[u8])
     for i in 0..bytes.len() {
         bytes[i] = bytes[i] & which[i];
     }
+}
+
+// How many of the first `len` bits are set.
+fn count_bits(bytes: &[u8], len: usize) -> usize
+    requires { len ≤ 8 * length bytes.now }
+    ensures { result ≡ count_by (bit_of bytes.now) (range_with_len 0 len) }
+{
+    let mut count = 0;
+    for i in 0..len / 8 {
+        count += count_first(bytes[i], 8);
+    }
+    let left = len % 8;
+    if left == 0 {
+        return count;
+    }
+    count + count_first(bytes[len / 8], left)
+}
+
+// How many of the first `n` bits of a byte are set.
+fn count_first(byte: u8, n: usize) -> usize
+    requires some { 0 < n }
+    requires few { n ≤ 8 }
+    ensures { result ≡ count_by (is_set byte) (range_with_len 0 n) }
+{
+    (byte & (255 >> (8 - n))).count_ones() as usize
 }

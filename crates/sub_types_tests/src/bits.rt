@@ -99,7 +99,21 @@ fn masks(alloc: Global, n: usize) -> bool {
         let _ = want.push(bits.get(i) && which.get(i));
     }
     bits.mask(&which);
-    are_same(&bits, &want)
+    are_same(&bits, &want) && counts(&bits)
+}
+
+// Whether they are counted as one by one.
+fn counts(bits: &Bits) -> bool {
+    let mut left = bits.count();
+    for i in 0..bits.len() {
+        if bits.get(i) {
+            if left == 0 {
+                return false;
+            }
+            left -= 1;
+        }
+    }
+    left == 0
 }
 
 // Whether these are so many times true.
@@ -110,7 +124,7 @@ fn are_ones(alloc: Global, n: usize) -> bool {
             for i in 0..bits.len() {
                 all = all && bits.get(i);
             }
-            all && bits.len() == n
+            all && bits.is_all() && bits.count() == n && bits.len() == n
         }
         Err(_) => false,
     }
