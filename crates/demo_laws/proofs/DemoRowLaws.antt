@@ -24,16 +24,13 @@ use Rattle.plan_denote.specs.Aggregate.{MAX_INPUT, Entry, entry_of, keys_in, mem
 use Rattle.plan_denote.specs.Sort.{Keyed, key_cmp, keyed, placed, arranged, sorted_rows, sorted}
 use Rattle.gen_data.specs.Rows.{MAX_NUMBER, order_rows, line_rows}
 use Rattle.gen_data.specs.Checked.{line_types, order_types}
-use Rattle.denote_typed.proofs.RowsLaws.{mapped, every}
+use Rattle.gen_data.specs.Summary.{IsSum, IsSummaryRow}
+use Rattle.denote_typed.proofs.RowsLaws.{mapped, distinct_all}
 use Rattle.demo_laws.proofs.CleanLaws.{Are, IsClean, Gives, behind, none_at_all, at_most, each_stream_clean, each_row_clean, one_row, from_all_clean}
 use Rattle.demo_laws.proofs.DemoLevels.{column_at, sum_and_count, by_order, rising, read_table, ordered_rows, region_rows, sorted_regions, demo_over}
 use Rattle.demo_laws.proofs.FewLaws.{IsAmong, few_distinct}
-use Rattle.demo_laws.proofs.ShapeLaws.{IsQuantity, IsLine, IsOrder, IsOrdered, IsEntry, lines_are, orders_are, short_region, three_keys, among_three, same_itself}
+use Rattle.demo_laws.proofs.ShapeLaws.{IsQuantity, IsLine, IsOrder, IsOrdered, IsKey, IsEntry, lines_are, orders_are, short_region, three_keys, among_three, same_itself}
 use Rattle.demo_laws.proofs.SumLaws.{sum_fits}
-
--- any row
-abbrev pub Any : {A : Type 0} → A → Type 0
-Any x = Unit {0}
 
 emitted_clean : (P Q : Row → Type 0) (most : ℕ) (columns : List ℕ) (s : Stream Row) → ((row : Row) → P row → Q (columns_at columns row)) → IsClean P most s → IsClean Q most (emitted columns s)
 unfolding emitted
@@ -138,50 +135,61 @@ entry_gives (values.Int a ∷ quantity ∷ values.Int b ∷ values.Bytes region 
 entry_gives _ is = absurd is
 
 abbrev IsGroup : Group → Type 0
-IsGroup group = Gives Any 1 (group_row sum_and_count group)
+IsGroup group = Gives IsSummaryRow 1 (group_row sum_and_count group)
 
-group_gives : (entries : List Entry) → AllByRecursion IsEntry entries → length entries ≤ MAX_INPUT → (key : Row) → IsGroup (group_of sum_and_count entries key)
-group_gives entries all few key =
+measured_row : (key : Row) (sum : Value) (count : ℤ) → IsKey key → IsSum sum → IsSummaryRow (key ++ (sum ∷ values.Int count ∷ []))
+measured_row (values.Bytes region ∷ []) sum count is total = total
+measured_row _ sum count is total = absurd is
+
+group_gives : (entries : List Entry) → AllByRecursion IsEntry entries → length entries ≤ MAX_INPUT → (key : Row) → IsKey key → IsGroup (group_of sum_and_count entries key)
+group_gives entries all few key is =
     let found = sum_fits key entries all few in
     let count = values.Int (pos (length (not_null (members_in entries key 1)))) in
     record {
       rows = (key ++ (found.0 ∷ count ∷ [])) ∷ [];
-      is = ap (λ (sum : Computed). (sum >>= (λ value. Ok (value ∷ count ∷ []))) >>= (λ measured. Ok ((key ++ measured) ∷ []))) found.1;
-      are = record { each = (tt, tt); few = omega arith };
+      is = ap (λ (sum : Computed). (sum >>= (λ value. Ok (value ∷ count ∷ []))) >>= (λ measured. Ok ((key ++ measured) ∷ []))) found.2;
+      are = record { each = (measured_row key found.0 (pos (length (not_null (members_in entries key 1)))) is found.1, tt); few = omega arith };
     }
 
 three_groups : (entries : List Entry) → AllByRecursion IsEntry entries → length (keys_in (column_at 3 ∷ []) [] entries) ≤ 3
 three_groups entries all = few_distinct is_same_row same_itself three_keys (map (λ (entry : Entry). entry.0) entries) (mapped IsEntry (IsAmong three_keys) (λ (entry : Entry). entry.0) entries all (λ entry is. among_three entry.0 is.0))
 
+keys_are : (entries : List Entry) → AllByRecursion IsEntry entries → AllByRecursion IsKey (keys_in (column_at 3 ∷ []) [] entries)
+keys_are entries all = distinct_all IsKey is_same_row (map (λ (entry : Entry). entry.0) entries) (mapped IsEntry IsKey (λ (entry : Entry). entry.0) entries all (λ entry is. is.0))
+
 groups_clean : (entries : List Entry) → AllByRecursion IsEntry entries → length entries ≤ MAX_INPUT
-    → IsClean Any 3 (each_row 1 (group_row sum_and_count) (rows_alone (map (group_of sum_and_count entries) (keys_in (column_at 3 ∷ []) [] entries))))
+    → IsClean IsSummaryRow 3 (each_row 1 (group_row sum_and_count) (rows_alone (map (group_of sum_and_count entries) (keys_in (column_at 3 ∷ []) [] entries))))
 groups_clean entries all few =
     let keys = keys_in (column_at 3 ∷ []) [] entries in
-    each_row_clean IsGroup Any 3 1 1 (group_row sum_and_count) (rows_alone (map (group_of sum_and_count entries) keys)) (λ group is. is) (record {
+    each_row_clean IsGroup IsSummaryRow 3 1 1 (group_row sum_and_count) (rows_alone (map (group_of sum_and_count entries) keys)) (λ group is. is) (record {
       end = refl;
       rows = record {
-        each = mapped Any IsGroup (group_of sum_and_count entries) keys (every Any keys (λ key. tt)) (λ key _. group_gives entries all few key);
+        each = mapped IsKey IsGroup (group_of sum_and_count entries) keys (keys_are entries all) (λ key is. group_gives entries all few key is);
         few = omega (arith, length-map keys (group_of sum_and_count entries), three_groups entries all);
       };
     })
 
-summary_clean : (entries : List Entry) → Are IsEntry MAX_INPUT entries → IsClean Any 3 (rows_of_summary 1 sum_and_count (summary (column_at 3 ∷ []) sum_and_count entries))
+summary_clean : (entries : List Entry) → Are IsEntry MAX_INPUT entries → IsClean IsSummaryRow 3 (rows_of_summary 1 sum_and_count (summary (column_at 3 ∷ []) sum_and_count entries))
 unfolding summary rows_of_summary
 summary_clean entries are =
     let groups = map (group_of sum_and_count entries) (keys_in (column_at 3 ∷ []) [] entries) in
     let few : nat_le (min (length entries) (suc MAX_INPUT)) MAX_INPUT ≡ true = le-leb (min (length entries) (suc MAX_INPUT)) MAX_INPUT (omega (arith, are.few)) in
     let kept : nat_le (length entries) MAX_INPUT ≡ true = le-leb (length entries) MAX_INPUT are.few in
-    subst (λ (test : Bool). IsClean Any 3 (if test then each_row 1 (group_row sum_and_count) (rows_alone (groups_if (nat_le (length entries) MAX_INPUT) groups)) else ended (Some (fault_at 1 faults.TooManyRows)))) (sym few)
-    (subst (λ (test : Bool). IsClean Any 3 (each_row 1 (group_row sum_and_count) (rows_alone (groups_if test groups)))) (sym kept) (groups_clean entries are.each are.few))
+    subst (λ (test : Bool). IsClean IsSummaryRow 3 (if test then each_row 1 (group_row sum_and_count) (rows_alone (groups_if (nat_le (length entries) MAX_INPUT) groups)) else ended (Some (fault_at 1 faults.TooManyRows)))) (sym few)
+    (subst (λ (test : Bool). IsClean IsSummaryRow 3 (each_row 1 (group_row sum_and_count) (rows_alone (groups_if test groups)))) (sym kept) (groups_clean entries are.each are.few))
 
-regions_clean : (s : Stream Row) → IsClean IsOrdered MAX_INPUT s → IsClean Any 3 (region_rows s)
+summary_emitted : (row : Row) → IsSummaryRow row → IsSummaryRow (columns_at (0 ∷ 1 ∷ 2 ∷ []) row)
+summary_emitted (values.Bytes region ∷ sum ∷ values.Int count ∷ []) is = is
+summary_emitted _ is = absurd is
+
+regions_clean : (s : Stream Row) → IsClean IsOrdered MAX_INPUT s → IsClean IsSummaryRow 3 (region_rows s)
 unfolding aggregated
 regions_clean s clean =
-    emitted_clean Any Any 3 (0 ∷ 1 ∷ 2 ∷ []) _ (λ row _. tt)
-    (from_all_clean IsEntry Any MAX_INPUT 3 (λ entries. rows_of_summary 1 sum_and_count (summary (column_at 3 ∷ []) sum_and_count entries)) (each_row 1 (entry_of (column_at 3 ∷ []) sum_and_count) s) summary_clean
+    emitted_clean IsSummaryRow IsSummaryRow 3 (0 ∷ 1 ∷ 2 ∷ []) _ summary_emitted
+    (from_all_clean IsEntry IsSummaryRow MAX_INPUT 3 (λ entries. rows_of_summary 1 sum_and_count (summary (column_at 3 ∷ []) sum_and_count entries)) (each_row 1 (entry_of (column_at 3 ∷ []) sum_and_count) s) summary_clean
     (each_row_clean IsOrdered IsEntry MAX_INPUT 1 1 (entry_of (column_at 3 ∷ []) sum_and_count) s entry_gives clean))
 
--- a sort keeps their number
+-- a sort keeps their number, and what they are
 length_if : {A : Type 0} (test : Bool) (a b : List A) (n : ℕ) → length a ≡ n → length b ≡ n → length (if test then a else b) ≡ n
 length_if true a b n is are = is
 length_if false a b n is are = are
@@ -198,16 +206,37 @@ length_sorted : (rows : List Keyed) → length (sorted_rows rising rows) ≡ len
 unfolding sorted_rows
 length_sorted rows = length-map _ (λ (one : Keyed). one.1) ∙ length_arranged (on (λ (one : Keyed). one.0) (key_cmp rising)) rows
 
-sorted_clean : (s : Stream Row) → IsClean Any 3 s → IsClean Any 3 (sorted_regions s)
+abbrev IsKeyed : Keyed → Type 0
+IsKeyed one = IsSummaryRow one.1
+
+either_all : (test : Bool) (a b : List Keyed) → AllByRecursion IsKeyed a → AllByRecursion IsKeyed b → AllByRecursion IsKeyed (if test then a else b)
+either_all true a b are others = are
+either_all false a b are others = others
+
+placed_all : (cmp : Keyed → Keyed → Ordering) (x : Keyed) (xs : List Keyed) → IsKeyed x → AllByRecursion IsKeyed xs → AllByRecursion IsKeyed (placed cmp x xs)
+placed_all cmp x [] is all = (is, tt)
+placed_all cmp x (y ∷ ys) is all = either_all (is_gt (cmp x y)) (y ∷ placed cmp x ys) (x ∷ y ∷ ys) (all.0, placed_all cmp x ys is all.1) (is, all)
+
+arranged_all : (cmp : Keyed → Keyed → Ordering) (xs : List Keyed) → AllByRecursion IsKeyed xs → AllByRecursion IsKeyed (arranged cmp xs)
+arranged_all cmp [] all = tt
+arranged_all cmp (x ∷ xs) all = placed_all cmp x (arranged cmp xs) all.0 (arranged_all cmp xs all.1)
+
+sorted_all : (rows : List Keyed) → AllByRecursion IsKeyed rows → AllByRecursion IsSummaryRow (sorted_rows rising rows)
+unfolding sorted_rows
+sorted_all rows all =
+    let cmp = on (λ (one : Keyed). one.0) (key_cmp rising) in
+    mapped IsKeyed IsSummaryRow (λ (one : Keyed). one.1) (arranged cmp rows) (arranged_all cmp rows all) (λ one is. is)
+
+sorted_clean : (s : Stream Row) → IsClean IsSummaryRow 3 s → IsClean IsSummaryRow 3 (sorted_regions s)
 unfolding sorted
 sorted_clean s clean =
-    emitted_clean Any Any 3 (0 ∷ 1 ∷ 2 ∷ []) _ (λ row _. tt)
-    (from_all_clean {A = Keyed} Any Any 3 3 (λ rows. rows_alone (sorted_rows rising rows)) (each_row 0 (keyed (column_at 0 ∷ [])) s)
-    (λ rows are. record { end = refl; rows = record { each = every Any (sorted_rows rising rows) (λ row. tt); few = omega (arith, length_sorted rows, are.few) } })
-    (each_row_clean Any Any 3 1 0 (keyed (column_at 0 ∷ [])) s (λ row _. one_row Any _ ((slice_index_or row 0 values.Null ∷ []), row) refl tt) clean))
+    emitted_clean IsSummaryRow IsSummaryRow 3 (0 ∷ 1 ∷ 2 ∷ []) _ summary_emitted
+    (from_all_clean {A = Keyed} IsKeyed IsSummaryRow 3 3 (λ rows. rows_alone (sorted_rows rising rows)) (each_row 0 (keyed (column_at 0 ∷ [])) s)
+    (λ rows are. record { end = refl; rows = record { each = sorted_all rows are.each; few = omega (arith, length_sorted rows, are.few) } })
+    (each_row_clean IsSummaryRow IsKeyed 3 1 0 (keyed (column_at 0 ∷ [])) s (λ row is. one_row IsKeyed _ ((slice_index_or row 0 values.Null ∷ []), row) refl is) clean))
 
 -- the demo's rows
-pub demo_clean : (number : ℕ) → number ≤ MAX_NUMBER → IsClean Any 3 (demo_over (rows_alone (line_rows number)) (rows_alone (order_rows number)))
+pub demo_clean : (number : ℕ) → number ≤ MAX_NUMBER → IsClean IsSummaryRow 3 (demo_over (rows_alone (line_rows number)) (rows_alone (order_rows number)))
 demo_clean number most =
     sorted_clean _ (regions_clean _
     (at_most IsOrdered (4 * number * number) MAX_INPUT _ (omega (arith, mul-le (4 * number) number 800000 200000 (omega (arith, most)) most))

@@ -13,6 +13,7 @@ use Rattle.plan_denote.specs.Distinct.{is_same_row}
 use Rattle.plan_denote.specs.Whole.{whole, beyond}
 use Rattle.plan_denote.specs.Tally.{not_null, total_of, tally_of, final}
 use Rattle.plan_denote.specs.Aggregate.{Entry, members_in}
+use Rattle.gen_data.specs.Summary.{IsSum}
 use Rattle.demo_laws.proofs.ShapeLaws.{IsQuantity, IsTaken, AreTaken, IsEntry}
 
 -- at most nine for each of so many
@@ -48,14 +49,14 @@ sums_up : (key : Row) (entries : List Entry) → AllByRecursion IsEntry entries 
 sums_up key [] all = record { sum = 0; is = refl; most = omega arith }
 sums_up key (entry ∷ entries) all = one_entry (is_same_row key entry.0) entry (length entries) (filter (λ (one : Entry). is_same_row key one.0) entries) all.0 (sums_up key entries all.1)
 
-in_range : (test : Bool) (n : ℤ) (sum : ℕ) → n ≡ pos sum → nat_lt sum (2 ^ 63) ≡ true → (value : Value) × ((if test then null else whole kinds.I64 modes.Error n) ≡ Ok value)
-in_range true n sum is small = (values.Null, refl)
+in_range : (test : Bool) (n : ℤ) (sum : ℕ) → n ≡ pos sum → nat_lt sum (2 ^ 63) ≡ true → (value : Value) × IsSum value × ((if test then null else whole kinds.I64 modes.Error n) ≡ Ok value)
+in_range true n sum is small = (values.Null, tt, refl)
 in_range false n sum is small =
-    (values.Int (pos sum), ap (λ (one : ℤ). whole kinds.I64 modes.Error one) is ∙ ap (λ (within : Bool). if within then Ok (values.Int (pos sum)) else beyond modes.Error kinds.I64 (pos sum)) small)
+    (values.Int (pos sum), tt, ap (λ (one : ℤ). whole kinds.I64 modes.Error one) is ∙ ap (λ (within : Bool). if within then Ok (values.Int (pos sum)) else beyond modes.Error kinds.I64 (pos sum)) small)
 
 -- their sum is a whole number of 64 bits, or null
 pub sum_fits : (key : Row) (entries : List Entry) → AllByRecursion IsEntry entries → length entries ≤ 2 ^ 40
-    → (value : Value) × (final funcs.Sum kinds.I64 (tally_of (not_null (members_in entries key 0))) ≡ Ok value)
+    → (value : Value) × IsSum value × (final funcs.Sum kinds.I64 (tally_of (not_null (members_in entries key 0))) ≡ Ok value)
 sum_fits key entries all few =
     let sums = sums_up key entries all in
     let tally = tally_of (not_null (members_in entries key 0)) in

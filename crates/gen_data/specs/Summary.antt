@@ -21,14 +21,25 @@ demo_tables number relation =
 unfoldable pub demo_rows : ℕ → List (List Value)
 demo_rows number = (denote_plan (demo_tables number) demo_plan).rows
 
--- a text as it is, a whole number in decimal digits, and `null`; the demo's rows have no other values
+-- a sum of quantities: null where a region has none
+abbrev pub IsSum : Value → Type 0
+IsSum values.Null = Unit {0}
+IsSum (values.Int n) = Unit {0}
+IsSum _ = ⊥
+
+-- a row of the demo: a region's name, its sum and its count
+abbrev pub IsSummaryRow : List Value → Type 0
+IsSummaryRow (values.Bytes region ∷ sum ∷ values.Int count ∷ []) = IsSum sum
+IsSummaryRow _ = ⊥
+
+-- a text as it is, a whole number in decimal digits, and `null`; a summary row has no other values
 abbrev pub value_text : Value → List ℕ
 value_text values.Null = codes "null"
 value_text (values.Int n) = signed_decimal n
 value_text (values.Bytes text) = text
 value_text _ = []
 
--- the line of a row: region, sum and count with one space between them; each row of the demo has these three
+-- the line of a row: region, sum and count with one space between them
 abbrev pub row_line : List Value → List ℕ
 row_line (region ∷ sum ∷ count ∷ []) = value_text region ++ (codes " " ++ (value_text sum ++ (codes " " ++ (value_text count ++ codes "\n"))))
 row_line _ = []

@@ -1,11 +1,10 @@
 // The demo's files in memory.
-ghost use Rattle.std.specs.Prelude.{◌≡◌, ◌*◌, ◌≤◌, [], ◌∷◌, length, map, IfOk, OnOk};
+ghost use Rattle.std.specs.Prelude.{◌≡◌, ◌≤◌, [], length, IfOk, OnOk};
 ghost use Rattle.std.specs.FinMap as map_of;
 ghost use Rattle.std.specs.List.{sum_by};
 ghost use Rattle.batch.specs.BatchRows.{rows_of, types_of};
 ghost use Rattle.arrow_meta.specs.File.{file_of};
 ghost use Rattle.gen_data.specs.Rows as spec;
-ghost use Rattle.gen_data.specs.Plan.{line_names as spec_line_names, order_names as spec_order_names};
 ghost use Rattle.gen_data.specs.Files.{demo_files};
 
 use crate::columns::{TEXT, WHOLE};

@@ -1,6 +1,6 @@
 //! The outside world as the engine sees it, as traits: a folder of files, its readers, the notes that are said, and
 //! a gate before each block; and folders, readers and notes in memory, with failures that a test can plan. It
-//! stands on `sub_types`; the program's own folder and notes, over real files, are in `substrait_run`. What every
+//! stands on `sub_types`; the program's folder, over real files, is in `std_folder`, and its notes are in `substrait_run`. What every
 //! call leaves is said by the traits' clauses, over `specs/Files.antt`, `Reads.antt`, `Counts.antt` and
 //! `Lent.antt`; what is planned to fail in memory is in `specs/Planned.antt`.
 #![tactic(auto)]
