@@ -349,9 +349,21 @@ fn pick(bytes: &mut [u8], source: &[u8], at: &[u64])
     ensures len { length bytes.new ≡ length bytes.old }
 {
     for i in 0..bytes.len() {
-        let count = (at.len() - 8 * i).min(8);
-        bytes[i] = picked(source, at, 8 * i, count);
+        bytes[i] = next_picked(source, at, 8 * i);
     }
+}
+
+// The bits that stand at the next eight places, or at the last of them.
+fn next_picked(source: &[u8], at: &[u64], from: usize) -> u8
+    requires there { from ≤ length at.now }
+    requires within { All (λ i. i < 8 * length source.now) at.now }
+    ensures { (k : ℕ) → k < 8 → from + k < length at.now → is_set result k ≡ bit_of source.now (slice_index at.now (from + k)) }
+{
+    let left = at.len() - from;
+    if left < 8 {
+        return picked(source, at, from, left);
+    }
+    picked(source, at, from, 8)
 }
 
 // The bits that stand at up to eight places.

@@ -10,8 +10,8 @@ loop-i-init c = record { made = IsMade-none (λ k. bit_of c.args.source.now (get
 
 pub loop-i-preserved : goal.loop-i-preserved
 loop-i-preserved c = record {
-  made = IsMade-more (λ k. bit_of c.args.source.now (get_or c.args.at.now k 0)) (length c.args.at.now) c.loop-i.bytes c.loop-i.i c.picked.result c.loop-i.invariant.made (omega arith) (λ k lt small. c.picked.ensures k (omega arith));
-  len = length-set c.loop-i.bytes c.loop-i.i c.picked.result ∙ c.loop-i.invariant.len;
+  made = IsMade-more (λ k. bit_of c.args.source.now (get_or c.args.at.now k 0)) (length c.args.at.now) c.loop-i.bytes c.loop-i.i c.next_picked.result c.loop-i.invariant.made (omega arith) c.next_picked.ensures;
+  len = length-set c.loop-i.bytes c.loop-i.i c.next_picked.result ∙ c.loop-i.invariant.len;
 }
 
 pub returns-clause-made : goal.returns-clause-made
