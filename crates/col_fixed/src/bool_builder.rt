@@ -1,5 +1,5 @@
 // A column of truth values that grows at its end.
-ghost use Rattle.std.specs.Prelude.{◌≡◌, ◌∷◌, ◌++◌, [], OnOk, OnErr};
+ghost use Rattle.std.specs.Prelude.{◌≡◌, ◌∷◌, ◌++◌, [], IfOk, OnOk, OnErr};
 
 use crate::{BoolCol, BoolView};
 use std::alloc::Global;
@@ -28,6 +28,15 @@ impl BoolBuilder {
         BoolBuilder {
             column: BoolCol::new(alloc),
         }
+    }
+
+    /// No values, and room for so many.
+    pub fn with_capacity(alloc: Global, n: usize) -> Result<BoolBuilder, NoMemory>
+        ensures { IfOk result (λ builder. builder ≡ []) }
+    {
+        Ok(BoolBuilder {
+            column: BoolCol::with_capacity(alloc, n)?,
+        })
     }
 
     /// Adds one at the end.

@@ -4,6 +4,7 @@ ghost use Rattle.std.specs.List.{slice_range};
 ghost use Rattle.sub_types.specs.Slots.{slots};
 
 use crate::BoolCol;
+use crate::gathered_bits::{gather_bits, gather_validity};
 use std::alloc::Global;
 use std::marker::Model;
 use sub_types::{Bits, NoMemory};
@@ -94,10 +95,9 @@ impl<'a> BoolView<'a> {
         requires { All (λ i. i < length self.now) at.now }
         ensures { IfOk result (λ column. column ≡ map (λ i. slice_index_or self.now i None) at.now) }
     {
-        let mut column = BoolCol::new(alloc);
-        for i in at {
-            column.push(self.value_at(*i as usize))?;
-        }
-        Ok(column)
+        let (values, valid, from, to) = self.parts();
+        let values = gather_bits(alloc, values, from, to, at)?;
+        let valid = gather_validity(alloc, valid, from, to, at)?;
+        Ok(BoolCol::from_zeroed(values, valid))
     }
 }

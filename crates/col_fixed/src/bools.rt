@@ -1,7 +1,8 @@
 // A column of truth values (Arrow columnar format, fixed-size primitive layout of one bit a value).
-ghost use Rattle.std.specs.Prelude.{◌≡◌, ◌↔◌, ◌<◌, ◌∷◌, ◌++◌, [], None, false, length, map, is_some, slice_index_or, OnOk, OnErr, IsTrue};
+ghost use Rattle.std.specs.Prelude.{◌≡◌, ◌↔◌, ◌<◌, ◌∷◌, ◌++◌, [], None, false, length, map, replicate, is_some, slice_index_or, IfOk, OnOk, OnErr, IsTrue};
 ghost use Rattle.sub_types.specs.Optional.{optional};
 ghost use Rattle.sub_types.specs.Slots.{slots};
+ghost use Rattle.col_fixed.specs.Column.{IsColumn};
 
 use crate::BoolView;
 use std::alloc::Global;
@@ -38,18 +39,46 @@ impl BoolCol {
         }
     }
 
+    /// No values, and room for so many.
+    pub(crate) fn with_capacity(alloc: Global, n: usize) -> Result<BoolCol, NoMemory>
+        ensures { IfOk result (λ column. column ≡ []) }
+    {
+        let mut column = BoolCol::new(alloc);
+        column.values.reserve(n)?;
+        column.valid.reserve(n)?;
+        Ok(column)
+    }
+
     /// The values whose bit in `valid` is true, and null for the others.
     pub fn from_parts(values: Bits, valid: Bits) -> BoolCol
         requires { length values ≡ length valid }
         ensures { result ≡ optional values valid }
     {
         let mut values = values;
-        for i in 0..valid.len() {
-            if !valid.get(i) {
-                values.put(i, false);
-            }
-        }
+        values.mask(&valid);
         BoolCol { values, valid }
+    }
+
+    /// The same, where false already stands where the bit in `valid` isn't true.
+    pub fn from_zeroed(values: Bits, valid: Bits) -> BoolCol
+        requires { IsColumn false values valid }
+        ensures { result ≡ optional values valid }
+    {
+        BoolCol { values, valid }
+    }
+
+    /// `n` times the truth value, or null.
+    pub fn constant(alloc: Global, value: Option<bool>, n: usize) -> Result<BoolCol, NoMemory>
+        ensures { IfOk result (λ column. column ≡ replicate n value) }
+    {
+        let Some(value) = value else {
+            let values = Bits::zeros(alloc, n)?;
+            let valid = Bits::zeros(alloc, n)?;
+            return Ok(BoolCol { values, valid });
+        };
+        let values = if value { Bits::ones(alloc, n)? } else { Bits::zeros(alloc, n)? };
+        let valid = Bits::ones(alloc, n)?;
+        Ok(BoolCol { values, valid })
     }
 
     pub fn len(&self) -> usize

@@ -1,5 +1,5 @@
 // A column of numbers (Arrow columnar format, fixed-size primitive layout).
-ghost use Rattle.std.specs.Prelude.{◌≡◌, ◌↔◌, ◌+◌, ◌<◌, ◌∷◌, ◌++◌, List, [], None, length, vec_len, map, is_some, slice_index_or, OnOk, OnErr, IsTrue};
+ghost use Rattle.std.specs.Prelude.{◌≡◌, ◌↔◌, ◌+◌, ◌<◌, ◌∷◌, ◌++◌, List, [], Some, None, length, vec_len, map, replicate, is_some, slice_index_or, IfOk, OnOk, OnErr, IsTrue};
 ghost use Rattle.sub_types.specs.Optional.{optional};
 ghost use Rattle.sub_types.specs.Slots.{slots};
 ghost use Rattle.col_fixed.specs.Column.{IsColumn, IsClearedBelow};
@@ -39,14 +39,55 @@ impl<T: Native> Fixed<T> {
         }
     }
 
+    /// No values, and room for so many.
+    pub(crate) fn with_capacity(alloc: Global, n: usize) -> Result<Fixed<T>, NoMemory>
+        ensures { IfOk result (λ column. column ≡ []) }
+    {
+        let values = Vec::with_capacity(alloc, n)?;
+        let mut valid = Bits::new(alloc);
+        valid.reserve(n)?;
+        Ok(Fixed { values, valid })
+    }
+
     /// The values whose bit is true, and null for the others.
     pub fn from_parts(values: Vec<T>, valid: Bits) -> Fixed<T>
         requires { vec_len values ≡ length valid }
         ensures { result ≡ optional values.items valid }
     {
+        if valid.is_all() {
+            return Fixed { values, valid };
+        }
         let mut values = values;
         clear_nulls(&mut values, &valid);
         Fixed { values, valid }
+    }
+
+    /// The same, where zero already stands in the slots whose bit isn't true.
+    pub fn from_zeroed(values: Vec<T>, valid: Bits) -> Fixed<T>
+        requires { IsColumn T.zero values.items valid }
+        ensures { result ≡ optional values.items valid }
+    {
+        Fixed { values, valid }
+    }
+
+    /// These values, and no null.
+    pub fn all_valid(values: Vec<T>) -> Result<Fixed<T>, NoMemory>
+        ensures { IfOk result (λ column. column ≡ map (λ value. Some value) values.items) }
+    {
+        let valid = Bits::ones(*values.allocator(), values.len())?;
+        Ok(Fixed { values, valid })
+    }
+
+    /// `n` times the value, or null.
+    pub fn constant(alloc: Global, value: Option<T>, n: usize) -> Result<Fixed<T>, NoMemory>
+        ensures { IfOk result (λ column. column ≡ replicate n value) }
+    {
+        let Some(value) = value else {
+            let values = vec![in alloc; T::zero(); n]?;
+            let valid = Bits::zeros(alloc, n)?;
+            return Ok(Fixed { values, valid });
+        };
+        Fixed::all_valid(vec![in alloc; value; n]?)
     }
 
     pub fn len(&self) -> usize

@@ -1,5 +1,5 @@
 // A column of numbers that grows at its end.
-ghost use Rattle.std.specs.Prelude.{◌≡◌, ◌∷◌, ◌++◌, [], OnOk, OnErr};
+ghost use Rattle.std.specs.Prelude.{◌≡◌, ◌∷◌, ◌++◌, [], IfOk, OnOk, OnErr};
 
 use crate::{Fixed, Native, View};
 use std::alloc::Global;
@@ -28,6 +28,15 @@ impl<T: Native> FixedBuilder<T> {
         FixedBuilder {
             column: Fixed::new(alloc),
         }
+    }
+
+    /// No values, and room for so many.
+    pub fn with_capacity(alloc: Global, n: usize) -> Result<FixedBuilder<T>, NoMemory>
+        ensures { IfOk result (λ builder. builder ≡ []) }
+    {
+        Ok(FixedBuilder {
+            column: Fixed::with_capacity(alloc, n)?,
+        })
     }
 
     /// Adds one at the end.

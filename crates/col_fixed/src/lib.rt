@@ -8,6 +8,7 @@ mod bool_view;
 mod bools;
 mod fixed;
 mod fixed_builder;
+mod gathered_bits;
 mod native;
 mod view;
 

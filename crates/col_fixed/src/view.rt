@@ -1,8 +1,10 @@
 // A column of numbers, or a part of one, lent without a copy.
 ghost use Rattle.std.specs.Prelude.{◌≡◌, ◌↔◌, ◌<◌, ◌≤◌, [], None, length, map, is_some, slice_index_or, All, IfOk, IsTrue};
 ghost use Rattle.std.specs.List.{slice_range};
+ghost use Rattle.sub_types.specs.Rows.{picked};
 ghost use Rattle.sub_types.specs.Slots.{slots};
 
+use crate::gathered_bits::gather_validity;
 use crate::{Fixed, Native};
 use std::alloc::Global;
 use std::marker::Model;
@@ -93,10 +95,21 @@ impl<'a, T: Native> View<'a, T> {
         requires { All (λ i. i < length self.now) at.now }
         ensures { IfOk result (λ column. column ≡ map (λ i. slice_index_or self.now i None) at.now) }
     {
-        let mut column = Fixed::new(alloc);
-        for i in at {
-            column.push(self.value_at(*i as usize))?;
-        }
-        Ok(column)
+        let values = gather_values(alloc, self.values(), at)?;
+        let (valid, from, to) = self.validity();
+        let valid = gather_validity(alloc, valid, from, to, at)?;
+        Ok(Fixed::from_zeroed(values, valid))
     }
+}
+
+// The values at these places, in this order.
+fn gather_values<T: Native>(alloc: Global, values: &[T], at: &[u64]) -> Result<Vec<T>, NoMemory>
+    requires { All (λ i. i < length values.now) at.now }
+    ensures { IfOk result (λ gathered. gathered.items ≡ picked T.zero at.now values.now) }
+{
+    let mut gathered = Vec::with_capacity(alloc, at.len())?;
+    for i in at {
+        gathered.push_reserved(values[*i as usize]);
+    }
+    Ok(gathered)
 }

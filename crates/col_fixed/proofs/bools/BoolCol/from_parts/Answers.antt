@@ -1,19 +1,8 @@
-use Rattle.std.proofs.Common.{◌∙◌, false, sym, arith}
-use Rattle.col_fixed.proofs.Cleared.{IsClearedBelow-null, IsClearedBelow-valid}
-use Rattle.col_fixed.proofs.ColumnLaws.{slots-optional}
+use Rattle.col_fixed.proofs.GatherLaws.{IsColumn-both, optional-both}
 use Rattle.col_fixed.proofs.bools.BoolCol.from_parts.Goals as goal
-use Rattle.col_fixed.proofs.bools.BoolCol.from_parts.Goals.{then-not-get, else-not-get}
-
-pub loop-i-preserved : goal.loop-i-preserved
-loop-i-preserved c =
-    let kept = c.loop-i.invariant in
-    let values = c.loop-i.values in
-    elim c.if-not-get.branch [
-      | then-not-get w ↦ rw (w.values-is, w.put.ensures) (IsClearedBelow-null false c.args.values values c.args.valid c.loop-i.i kept (omega (arith, kept.same_length)) (sym c.get.ensures ∙ w.if-not-get.true))
-      | else-not-get w ↦ rw w.values-is (IsClearedBelow-valid false c.args.values values c.args.valid c.loop-i.i kept (sym c.get.ensures ∙ w.if-not-get.false))
-    ]
 
 pub invariant_of-result : goal.invariant_of-result
-invariant_of-result c =
-    let kept = c.loop-i.invariant in
-    record { same_length = kept.same_length; zeroed = slots-optional false c.loop-i.values c.args.valid kept.same_length (λ k below null. kept.cleared k (omega (arith, kept.same_length, c.len-i-end.ensures)) null) }
+invariant_of-result c = rw c.mask.ensures (IsColumn-both c.args.values c.args.valid c.requires)
+
+pub returns : goal.returns
+returns c = rw c.mask.ensures (optional-both c.args.values c.args.valid c.requires)
