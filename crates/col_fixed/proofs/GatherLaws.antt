@@ -1,12 +1,12 @@
 -- Values and their validity at places, and columns whose values are all there or all missing.
-use Rattle.std.proofs.Common.{◌≡◌, ◌∙◌, ℕ, zero, suc, ◌+◌, ◌-◌, ◌<◌, ◌≤◌, List, [], ◌∷◌, length, map, get_or, replicate, Bool, true, false, Option, Some, None, unwrap_or, is_some, refl, sym, ap, subst, arith, zero-add}
+use Rattle.std.proofs.Common.{◌≡◌, ◌∙◌, ℕ, zero, suc, ◌+◌, ◌<◌, ◌≤◌, List, [], ◌∷◌, length, map, get_or, replicate, Bool, true, false, Option, Some, None, unwrap_or, is_some, refl, sym, ap, subst, arith, zero-add}
 use Rattle.std.specs.List.{All, slice_range}
 use Rattle.std.proofs.Math.ListN.{get_or-map}
 use Rattle.std.proofs.lemmas.List.{get_or-replicate}
-use Rattle.std.proofs.lemmas.List.Elements.{All-head, All-tail, All-weaker}
+use Rattle.std.proofs.lemmas.List.Elements.{All-head, All-tail}
 use Rattle.sub_types.specs.BitSteps.{both}
 use Rattle.sub_types.specs.Optional.{optional}
-use Rattle.sub_types.specs.PartLaws.{get_or-part, length-part}
+use Rattle.sub_types.specs.PartLaws.{get_or-part}
 use Rattle.sub_types.specs.Rows.{picked}
 use Rattle.sub_types.specs.Slots.{slots, optional-slots}
 use Rattle.col_fixed.specs.Column.{IsColumn}
@@ -45,22 +45,6 @@ picked-all valid from to (i ∷ at) all within places =
     ap (λ x. x ∷ replicate (length at) true) (sym here)
     ∙ ap (λ rest. get_or (slice_range valid from to) i false ∷ rest) (picked-all valid from to at all within (All-tail (λ k. from + k < to) i at places))
 
--- places of a whole column are places of the bits that are its validity
-pub places_of : {X : Type 0} (column : List X) (bits : List Bool) (from to : ℕ) (at : List ℕ) → length (slice_range bits from to) ≡ length column → from ≤ to → to ≤ length bits → All (λ i. i < length column) at → All (λ i. from + i < to) at
-places_of column bits from to at same rising within places =
-    let long = length-part bits from to within in
-    All-weaker (λ i. i < length column) (λ i. from + i < to) (λ i below. omega (arith, long, same)) at places
-
--- places before an end are places of the whole
-pub places_within : (n to : ℕ) (at : List ℕ) → to ≤ n → All (λ i. 0 + i < to) at → All (λ i. i < n) at
-places_within n to at within places = All-weaker (λ i. 0 + i < to) (λ i. i < n) (λ i below. omega arith) at places
-
--- places of a part
-pub places_in : (bits : List Bool) (from to : ℕ) (at : List ℕ) → to ≤ length bits → All (λ i. from + i < to) at → All (λ i. i < length (slice_range bits from to)) at
-places_in bits from to at within places =
-    let long = length-part bits from to within in
-    All-weaker (λ i. from + i < to) (λ i. i < length (slice_range bits from to)) (λ i below. omega (arith, long)) at places
-
 -- values of which none is missing
 pub IsColumn-all : {T : Type 0} (d : T) (xs : List T) → IsColumn d xs (replicate (length xs) true)
 IsColumn-all d [] = record { same_length = refl; zeroed = refl }
@@ -77,11 +61,16 @@ IsColumn-all_true d xs valid same all =
     let P : List Bool → Type 0 = λ bits. IsColumn d xs bits in
     subst P ones (IsColumn-all d xs)
 
--- one value over and over, and null over and over
-pub some-replicate : {T : Type 0} (n : ℕ) (x : T) → map (λ y. Some y) (replicate n x) ≡ replicate n (Some x)
-some-replicate zero x = refl
-some-replicate (suc n) x = ap (λ rest. Some x ∷ rest) (some-replicate n x)
+-- one value over and over
+pub IsColumn-constant : {T : Type 0} (d x : T) (n : ℕ) → IsColumn d (replicate n x) (replicate n true)
+IsColumn-constant d x zero = record { same_length = refl; zeroed = refl }
+IsColumn-constant d x (suc n) = IsColumn-append d (x ∷ []) (replicate n x) (true ∷ []) (replicate n true) (IsColumn-value d x) (IsColumn-constant d x n)
 
+pub optional-constant : {T : Type 0} (x : T) (n : ℕ) → optional (replicate n x) (replicate n true) ≡ replicate n (Some x)
+optional-constant x zero = refl
+optional-constant x (suc n) = ap (λ rest. Some x ∷ rest) (optional-constant x n)
+
+-- null over and over
 pub IsColumn-nulls : {T : Type 0} (d : T) (n : ℕ) → IsColumn d (replicate n d) (replicate n false)
 IsColumn-nulls d zero = record { same_length = refl; zeroed = refl }
 IsColumn-nulls d (suc n) = IsColumn-append d (d ∷ []) (replicate n d) (false ∷ []) (replicate n false) (IsColumn-null d) (IsColumn-nulls d n)

@@ -76,7 +76,7 @@ impl BoolCol {
             let valid = Bits::zeros(alloc, n)?;
             return Ok(BoolCol { values, valid });
         };
-        let values = if value { Bits::ones(alloc, n)? } else { Bits::zeros(alloc, n)? };
+        let values = repeated(alloc, value, n)?;
         let valid = Bits::ones(alloc, n)?;
         Ok(BoolCol { values, valid })
     }
@@ -152,4 +152,14 @@ impl BoolCol {
         }
         Ok(())
     }
+}
+
+// `n` times the truth value.
+fn repeated(alloc: Global, value: bool, n: usize) -> Result<Bits, NoMemory>
+    ensures { IfOk result (λ values. values ≡ replicate n value) }
+{
+    if value {
+        return Ok(Bits::ones(alloc, n)?);
+    }
+    Ok(Bits::zeros(alloc, n)?)
 }

@@ -83,11 +83,13 @@ impl<T: Native> Fixed<T> {
         ensures { IfOk result (λ column. column ≡ replicate n value) }
     {
         let Some(value) = value else {
-            let values = vec![in alloc; T::zero(); n]?;
+            let values = repeated(alloc, T::zero(), n)?;
             let valid = Bits::zeros(alloc, n)?;
             return Ok(Fixed { values, valid });
         };
-        Fixed::all_valid(vec![in alloc; value; n]?)
+        let values = repeated(alloc, value, n)?;
+        let valid = Bits::ones(alloc, n)?;
+        Ok(Fixed { values, valid })
     }
 
     pub fn len(&self) -> usize
@@ -160,6 +162,17 @@ impl<T: Native> Fixed<T> {
         }
         Ok(())
     }
+}
+
+// `n` times the value.
+fn repeated<T: Native>(alloc: Global, value: T, n: usize) -> Result<Vec<T>, NoMemory>
+    ensures { IfOk result (λ values. values.items ≡ replicate n value) }
+{
+    let mut values = Vec::with_capacity(alloc, n)?;
+    for _i in 0..n {
+        values.push_reserved(value);
+    }
+    Ok(values)
 }
 
 // Puts zero into the slots that aren't valid. A byte of 255 says that eight are, and is skipped.

@@ -1,6 +1,4 @@
-use Rattle.std.proofs.Common.{◌∙◌, false, map, is_some, ap}
-use Rattle.sub_types.specs.Slots.{slots}
-use Rattle.sub_types.specs.Rows.{picked}
+use Rattle.std.proofs.Common.{◌∙◌, false}
 use Rattle.col_fixed.proofs.GatherLaws.{IsColumn-picked, optional-picked}
 use Rattle.col_fixed.proofs.bool_view.BoolView.gather.Goals as goal
 

@@ -1,15 +1,15 @@
-use Rattle.std.proofs.Common.{◌≡◌, ◌∙◌, false}
-use Rattle.col_fixed.proofs.GatherLaws.{IsColumn-nulls, optional-nulls, some-replicate}
+use Rattle.std.proofs.Common.{false}
+use Rattle.col_fixed.proofs.GatherLaws.{IsColumn-constant, optional-constant, IsColumn-nulls, optional-nulls}
 use Rattle.col_fixed.proofs.bools.BoolCol.constant.Goals as goal
 
 pub invariant_of-result : goal.invariant_of-result
 invariant_of-result c = rw (c.in_ok-values.ensures, c.in_ok-valid.ensures) (IsColumn-nulls false c.args.n)
 
 pub returns-in_default : goal.returns-in_default
-returns-in_default c = rw (c.in_ok-values.ensures, c.in_ok-valid.ensures, optional-nulls false c.args.n) ?
+returns-in_default c = rw (c.in_ok-values.ensures, c.in_ok-valid.ensures, c.in_default.is) (optional-nulls false c.args.n)
 
 pub invariant_of-result-2 : goal.invariant_of-result-2
-invariant_of-result-2 c = ?
+invariant_of-result-2 c = rw (c.in_ok-values-2.ensures, c.in_ok-valid-2.ensures) (IsColumn-constant false c.in-Some.value c.args.n)
 
 pub returns : goal.returns
-returns c = ?
+returns c = rw (c.in_ok-values-2.ensures, c.in_ok-valid-2.ensures, c.in-Some.is) (optional-constant c.in-Some.value c.args.n)
