@@ -1,5 +1,5 @@
 -- The values at some places of a column.
-use Rattle.std.proofs.Common.{◌≡◌, ◌∙◌, ℕ, zero, suc, ◌+◌, ◌<◌, ◌≤◌, List, [], ◌∷◌, ◌++◌, Bool, true, false, Option, Some, None, unwrap_or, is_some, length, map, take, get_or, All, refl, sym, ap, arith, zero-add, add-zero, length-append, replicate}
+use Rattle.std.proofs.Common.{◌≡◌, ◌∙◌, ℕ, zero, suc, ◌+◌, ◌<◌, ◌≤◌, List, [], ◌∷◌, ◌++◌, Bool, true, false, Option, None, unwrap_or, is_some, length, map, take, get_or, All, refl, sym, ap, arith, zero-add, replicate}
 use Rattle.std.specs.List.{slice_range, concat}
 use Rattle.std.proofs.lemmas.List.{take_more, map-append, length-map, append-nil, get_or-map, get_or-replicate}
 use Rattle.sub_types.specs.Slots.{slots, length-slots}
@@ -74,8 +74,21 @@ all_bits_at valid (i ∷ at) set all =
     let here : get_or valid i false ≡ true = ap (λ bits. get_or bits i false) set ∙ get_or-replicate (length valid) i true false first in
     ap (λ rest. true ∷ rest) (all_bits_at valid at set (λ k d h. all (suc k) d (omega arith))) ∙ ap (λ b. b ∷ map (λ k. get_or valid k false) at) (sym here)
 
--- the bit of one place more
-pub validity-more : (part : List (Option (List ℕ))) (at : List ℕ) (k : ℕ) → k < length at → map is_some (values_at part (take (k + 1) at)) ≡ map is_some (values_at part (take k at)) ++ is_some (get_or part (get_or at k 0) None) ∷ []
-validity-more part at k below =
-    ap (λ places. map is_some (values_at part places)) (take_more at k 0 below) ∙ ap (map is_some) (map-append (λ i. get_or part i None) (take k at) (get_or at k 0 ∷ []))
-    ∙ map-append is_some (values_at part (take k at)) (get_or part (get_or at k 0) None ∷ [])
+-- the bits of a part that begins where the column does
+pub bits_at_front : (part : List (Option (List ℕ))) (valid : List Bool) (at : List ℕ) (from to : ℕ) → from ≤ 0 → to ≤ length valid → slice_range valid from to ≡ map is_some part → All (λ i. i < length part) at
+    → map (λ i. get_or valid i false) at ≡ map is_some (values_at part at)
+bits_at_front part valid at from to front within is all =
+    bits_at part valid at (λ i below. let place : i ≡ from + i = omega arith in ap (λ n. get_or valid n false) place ∙ bit_of_part part valid from to i within is below) all
+
+pub all_bits_at_front : (part : List (Option (List ℕ))) (valid : List Bool) (at : List ℕ) (from to : ℕ) → from ≤ 0 → to ≤ length valid → slice_range valid from to ≡ map is_some part → All (λ i. i < length part) at
+    → valid ≡ replicate (length valid) true → replicate (length at) true ≡ map is_some (values_at part at)
+all_bits_at_front part valid at from to front within is all set =
+    let long : length (slice_range valid from to) ≡ length part = ap length is ∙ length-map part is_some in
+    let inside = length-part valid from to within in
+    all_bits_at valid at set (λ k d h. let here = all k d h in omega (arith, here, long, inside)) ∙ bits_at_front part valid at from to front within is all
+
+-- the bits of a part of its own
+pub bits_at_part : (part : List (Option (List ℕ))) (valid bits : List Bool) (at : List ℕ) (from to : ℕ) → bits ≡ slice_range valid from to → slice_range valid from to ≡ map is_some part → All (λ i. i < length part) at
+    → map (λ i. get_or bits i false) at ≡ map is_some (values_at part at)
+bits_at_part part valid bits at from to copied is all =
+    bits_at part bits at (λ i below. ap (λ (all_bits : List Bool). get_or all_bits i false) (copied ∙ is) ∙ get_or-map is_some part i None false below) all

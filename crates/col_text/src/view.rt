@@ -163,11 +163,14 @@ impl<'a> TextView<'a> {
         requires { All (λ i. i < length self.now) at.now }
         ensures { IfOk result (λ bits. bits ≡ map is_some (values_at self.now at.now)) }
     {
-        let (valid, from, _) = self.validity();
-        let mut bits = Bits::new(alloc);
-        for i in at {
-            bits.push(valid.get(from + *i as usize))?;
+        let (valid, from, to) = self.validity();
+        if from > 0 {
+            return valid.part(alloc, from, to)?.gather(alloc, at);
         }
-        Ok(bits)
+        // Looking for a null in all of the column pays where much of it is gathered.
+        if to / 64 <= at.len() && valid.is_all() {
+            return Bits::ones(alloc, at.len());
+        }
+        valid.gather(alloc, at)
     }
 }

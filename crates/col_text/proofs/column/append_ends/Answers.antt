@@ -1,8 +1,6 @@
 use Rattle.std.proofs.Common.{◌∙◌, ◌++◌, ◌+◌, ◌-◌, ◌^◌, ◌%◌, [], ℕ, List, map, ap}
-use Rattle.std.specs.List.{concat}
 use Rattle.std.proofs.lemmas.Result.{on_ok_weaker}
 use Rattle.sub_types.specs.Slots.{slots}
-use Rattle.col_text.specs.Text.{ends_of}
 use Rattle.col_text.proofs.EndLaws.{ends_of-moved_all}
 use Rattle.col_text.proofs.column.append_ends.Goals as goal
 

@@ -1,4 +1,4 @@
-use Rattle.std.proofs.Common.{rules, ◌≡◌, ◌∙◌, ◌≤◌, [], length, ap, sym, arith, zero-add}
+use Rattle.std.proofs.Common.{rules, ◌≡◌, ◌∙◌, ◌≤◌, [], length, ap, arith, zero-add}
 use Rattle.std.specs.List.{slice_range}
 use Rattle.sub_types.specs.Slots.{slots, length-slots}
 use Rattle.col_text.specs.Text.{ends_of, offset_of}
