@@ -92,3 +92,23 @@ pub bits_at_part : (part : List (Option (List ℕ))) (valid bits : List Bool) (a
     → map (λ i. get_or bits i false) at ≡ map is_some (values_at part at)
 bits_at_part part valid bits at from to copied is all =
     bits_at part bits at (λ i below. ap (λ (all_bits : List Bool). get_or all_bits i false) (copied ∙ is) ∙ get_or-map is_some part i None false below) all
+
+-- where there is no value
+pub nothing_past : {X : Type 0} (xs : List X) (i : ℕ) (d : X) → length xs ≤ i → get_or xs i d ≡ d
+nothing_past [] i d past = refl
+nothing_past (x ∷ xs) zero d past = absurd (omega arith)
+nothing_past (x ∷ xs) (suc i) d past = nothing_past xs i d (omega arith)
+
+pub no_text_past : (column : List (Option (List ℕ))) (i : ℕ) → length column ≤ i → [] ≡ get_or (slots [] column) i []
+no_text_past column i past = sym (nothing_past (slots [] column) i [] (omega (arith, length-slots [] column)))
+
+-- the bit of one place more
+pub validity-more : (part : List (Option (List ℕ))) (at : List ℕ) (k : ℕ) → k < length at → map is_some (values_at part (take (k + 1) at)) ≡ map is_some (values_at part (take k at)) ++ is_some (get_or part (get_or at k 0) None) ∷ []
+validity-more part at k below =
+    ap (λ places. map is_some (values_at part places)) (take_more at k 0 below) ∙ ap (map is_some) (map-append (λ i. get_or part i None) (take k at) (get_or at k 0 ∷ []))
+    ∙ map-append is_some (values_at part (take k at)) (get_or part (get_or at k 0) None ∷ [])
+
+-- one value, as often as it is asked for
+pub same_value : (value : Option (List ℕ)) (n : ℕ) → values_at (value ∷ []) (replicate n 0) ≡ replicate n value
+same_value value zero = refl
+same_value value (suc n) = ap (λ rest. value ∷ rest) (same_value value n)

@@ -1,5 +1,5 @@
 // A column of texts or binaries (Arrow columnar format, variable-size binary layout).
-ghost use Rattle.std.specs.Prelude.{◌≡◌, ◌↔◌, ℕ, ◌+◌, ◌%◌, ◌^◌, ◌<◌, ◌≤◌, ◌∷◌, ◌++◌, List, [], None, length, vec_len, map, is_some, slice_index_or, option_copied, OnOk, OnErr, IsTrue};
+ghost use Rattle.std.specs.Prelude.{◌≡◌, ◌↔◌, ℕ, ◌+◌, ◌%◌, ◌^◌, ◌<◌, ◌≤◌, ◌∷◌, ◌++◌, List, [], None, length, vec_len, map, is_some, slice_index_or, option_copied, replicate, OnOk, OnErr, IfOk, IsTrue};
 ghost use Rattle.std.specs.List.{concat, slice_range};
 ghost use Rattle.sub_types.specs.Slots.{slots};
 ghost use Rattle.sub_types.specs.Optional.{optional};
@@ -40,6 +40,30 @@ impl TextCol {
             bytes: Vec::new(alloc),
             valid: Bits::new(alloc),
         }
+    }
+
+    /// No values, with room for so many and for their bytes.
+    pub(crate) fn with_capacity(
+        alloc: Global,
+        values: usize,
+        bytes: usize,
+    ) -> Result<TextCol, NoMemory>
+        ensures { IfOk result (λ column. column ≡ []) }
+    {
+        let ends = Vec::with_capacity(alloc, values)?;
+        let bytes = Vec::with_capacity(alloc, bytes)?;
+        let mut valid = Bits::new(alloc);
+        valid.reserve(values)?;
+        Ok(TextCol { ends, bytes, valid })
+    }
+
+    /// `n` times the same value.
+    pub fn constant(alloc: Global, value: Option<&[u8]>, n: usize) -> Result<TextCol, NoMemory>
+        ensures { IfOk result (λ column. column ≡ replicate n (option_copied value.entry)) }
+    {
+        let mut one = TextCol::new(alloc);
+        one.push(value)?;
+        one.view().gather(alloc, &vec![in alloc; 0; n]?)
     }
 
     /// The column of these texts: where each ends, their bytes one behind the other, and which are there. It takes
