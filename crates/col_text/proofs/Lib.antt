@@ -1,1 +1,4 @@
 pub mod TextLaws
+pub mod PartsLaws
+pub mod GatherLaws
+pub mod EndLaws

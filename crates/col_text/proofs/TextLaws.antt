@@ -25,7 +25,7 @@ ends_of-append start (x ∷ xs) ys =
     ap (λ rest. (start + length x) ∷ rest) (ends_of-append (start + length x) xs ys ∙ ap (λ n. ends_of (start + length x) xs ++ ends_of n ys) place)
 
 -- what stands between two texts' ends
-slice-middle : (front text back : List ℕ) (start : ℕ) → length front ≡ start → slice_range (front ++ (text ++ back)) start (start + length text) ≡ text
+pub slice-middle : (front text back : List ℕ) (start : ℕ) → length front ≡ start → slice_range (front ++ (text ++ back)) start (start + length text) ≡ text
 slice-middle front text back start long =
     ap (take (start + length text - start)) (drop_at front (text ++ back) start long) ∙ take_at text back (start + length text - start) (omega arith)
 

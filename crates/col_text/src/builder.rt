@@ -1,5 +1,5 @@
 // A column of texts or binaries that grows at its end.
-ghost use Rattle.std.specs.Prelude.{◌≡◌, ◌∷◌, ◌++◌, [], option_copied, OnOk, OnErr};
+ghost use Rattle.std.specs.Prelude.{◌≡◌, ◌∷◌, ◌++◌, [], option_copied, OnOk, OnErr, IfOk};
 
 use crate::{TextCol, TextView};
 use std::alloc::Global;
@@ -28,6 +28,19 @@ impl TextBuilder {
         TextBuilder {
             column: TextCol::new(alloc),
         }
+    }
+
+    /// No values, with room for so many and for their bytes.
+    pub fn with_capacity(
+        alloc: Global,
+        values: usize,
+        bytes: usize,
+    ) -> Result<TextBuilder, NoMemory>
+        ensures { IfOk result (λ builder. builder ≡ []) }
+    {
+        Ok(TextBuilder {
+            column: TextCol::with_capacity(alloc, values, bytes)?,
+        })
     }
 
     /// Adds one at the end.

@@ -1,8 +1,9 @@
 // A column of texts or binaries (Arrow columnar format, variable-size binary layout).
-ghost use Rattle.std.specs.Prelude.{◌≡◌, ◌↔◌, ℕ, ◌+◌, ◌^◌, ◌<◌, ◌≤◌, ◌∷◌, ◌++◌, List, [], None, length, vec_len, map, is_some, slice_index_or, option_copied, OnOk, OnErr, IsTrue};
+ghost use Rattle.std.specs.Prelude.{◌≡◌, ◌↔◌, ℕ, ◌+◌, ◌%◌, ◌^◌, ◌<◌, ◌≤◌, ◌∷◌, ◌++◌, List, [], None, length, vec_len, map, is_some, slice_index_or, option_copied, replicate, OnOk, OnErr, IfOk, IsTrue};
 ghost use Rattle.std.specs.List.{concat, slice_range};
 ghost use Rattle.sub_types.specs.Slots.{slots};
-ghost use Rattle.col_text.specs.Text.{ends_of, offset_of};
+ghost use Rattle.sub_types.specs.Optional.{optional};
+ghost use Rattle.col_text.specs.Text.{ends_of, offset_of, pieces, AreParts};
 
 use crate::TextView;
 use std::alloc::Global;
@@ -39,6 +40,39 @@ impl TextCol {
             bytes: Vec::new(alloc),
             valid: Bits::new(alloc),
         }
+    }
+
+    /// No values, with room for so many and for their bytes.
+    pub(crate) fn with_capacity(
+        alloc: Global,
+        values: usize,
+        bytes: usize,
+    ) -> Result<TextCol, NoMemory>
+        ensures { IfOk result (λ column. column ≡ []) }
+    {
+        let ends = Vec::with_capacity(alloc, values)?;
+        let bytes = Vec::with_capacity(alloc, bytes)?;
+        let mut valid = Bits::new(alloc);
+        valid.reserve(values)?;
+        Ok(TextCol { ends, bytes, valid })
+    }
+
+    /// `n` times the same value.
+    pub fn constant(alloc: Global, value: Option<&[u8]>, n: usize) -> Result<TextCol, NoMemory>
+        ensures { IfOk result (λ column. column ≡ replicate n (option_copied value.entry)) }
+    {
+        let mut one = TextCol::new(alloc);
+        one.push(value)?;
+        one.view().gather(alloc, &vec![in alloc; 0; n]?)
+    }
+
+    /// The column of these texts: where each ends, their bytes one behind the other, and which are there. It takes
+    /// no memory.
+    pub fn from_parts(ends: Vec<usize>, bytes: Vec<u8>, valid: Bits) -> TextCol
+        requires { AreParts ends.items bytes.items valid }
+        ensures { result ≡ optional (pieces 0 ends.items bytes.items) valid }
+    {
+        TextCol { ends, bytes, valid }
     }
 
     pub fn len(&self) -> usize
@@ -91,6 +125,15 @@ impl TextCol {
         ensures within { result.1 ≤ length (concat (slots [] self.now)) }
     {
         (self.offset(from), self.offset(to))
+    }
+
+    /// Where the values from `from` to before `to` end.
+    pub(crate) fn ends_between(&self, from: usize, to: usize) -> &[usize]
+        requires rising { from ≤ to }
+        requires within { to ≤ length self.now }
+        ensures { result.now ≡ ends_of (offset_of (slots [] self.now) from) (slice_range (slots [] self.now) from to) }
+    {
+        &self.ends[from..to]
     }
 
     /// The bytes of the values from `from` to before `to`, one behind the other. A null has none.
@@ -181,12 +224,22 @@ fn append_ends(ends: &mut Vec<usize>, more: &TextView<'_>, start: usize) -> Resu
     ensures ok { OnOk result (ends.new.items ≡ ends.old.items ++ ends_of start (slots [] more.now)) }
     ensures err { OnErr result (ends.new.items ≡ ends.old.items) }
 {
+    let (begin, more) = more.ends();
+    extend_moved(ends, more, start.wrapping_sub(begin))
+}
+
+// Adds these numbers, each moved by a number that wraps round.
+fn extend_moved(ends: &mut Vec<usize>, more: &[usize], shift: usize) -> Result<(), NoMemory>
+    ensures ok { OnOk result (ends.new.items ≡ ends.old.items ++ map (λ end. (end + shift) % 2 ^ 64) more.now) }
+    ensures err { OnErr result (ends.new.items ≡ ends.old.items) }
+{
     let count = ends.len();
-    for i in 0..more.len() {
-        if ends.push(start + more.offset(i + 1)).is_err() {
-            ends.truncate(count);
-            return Err(NoMemory);
-        }
+    if ends
+        .extend(more.iter().map(|end| end.wrapping_add(shift)))
+        .is_err()
+    {
+        ends.truncate(count);
+        return Err(NoMemory);
     }
     Ok(())
 }

@@ -1,8 +1,8 @@
 // A column of texts or binaries, or a part of one, lent without a copy.
-ghost use Rattle.std.specs.Prelude.{◌≡◌, ◌↔◌, ◌<◌, ◌≤◌, [], None, length, map, is_some, slice_index_or, option_copied, All, IfOk, IsTrue};
+ghost use Rattle.std.specs.Prelude.{◌≡◌, ◌↔◌, ◌+◌, ◌^◌, ◌<◌, ◌≤◌, [], None, length, map, is_some, slice_index_or, option_copied, All, IfOk, IsTrue};
 ghost use Rattle.std.specs.List.{slice_range, concat};
 ghost use Rattle.sub_types.specs.Slots.{slots};
-ghost use Rattle.col_text.specs.Text.{offset_of};
+ghost use Rattle.col_text.specs.Text.{ends_of, offset_of, values_at, texts_at};
 
 use crate::TextCol;
 use std::alloc::Global;
@@ -98,15 +98,119 @@ impl<'a> TextView<'a> {
         (self.column.validity(), self.from, self.from + self.len)
     }
 
+    /// Where the bytes of these values begin in the column's, and where each value ends there.
+    pub(crate) fn ends(&self) -> (usize, &'a [usize])
+        ensures ends { result.1.now ≡ ends_of result.0 (slots [] self.now) }
+        ensures within { result.0 + length (concat (slots [] self.now)) < 2 ^ 64 }
+    {
+        let end = self.from + self.len;
+        let (begin, _) = self.column.extent(self.from, end);
+        (begin, self.column.ends_between(self.from, end))
+    }
+
     /// The values at these places, in this order.
     pub fn gather(&self, alloc: Global, at: &[u64]) -> Result<TextCol, NoMemory>
         requires { All (λ i. i < length self.now) at.now }
         ensures { IfOk result (λ column. column ≡ map (λ i. slice_index_or self.now i None) at.now) }
     {
-        let mut column = TextCol::new(alloc);
-        for i in at {
-            column.push(self.value_at(*i as usize))?;
+        let valid = self.gather_validity(alloc, at)?;
+        self.gather_texts(alloc, at, valid)
+    }
+
+    /// The values at these places, in this order, and null at a place where there is none, as an outer join wants
+    /// it of a row without a match.
+    pub fn gather_or_null(&self, alloc: Global, at: &[u64]) -> Result<TextCol, NoMemory>
+        ensures { IfOk result (λ column. column ≡ map (λ i. slice_index_or self.now i None) at.now) }
+    {
+        let count = self.len as u64;
+        if at.iter().all(|i| *i < count) {
+            return self.gather(alloc, at);
         }
-        Ok(column)
+        let valid = self.validity_or_null(alloc, at)?;
+        self.gather_texts(alloc, at, valid)
+    }
+
+    // The texts at these places, beside which of them are there.
+    fn gather_texts(&self, alloc: Global, at: &[u64], valid: Bits) -> Result<TextCol, NoMemory>
+        requires { valid ≡ map is_some (values_at self.now at.now) }
+        ensures { IfOk result (λ column. column ≡ map (λ i. slice_index_or self.now i None) at.now) }
+    {
+        let ends = self.gather_ends(alloc, at)?;
+        let bytes = self.gather_bytes(alloc, at, ends.last().copied().unwrap_or(0))?;
+        Ok(TextCol::from_parts(ends, bytes, valid))
+    }
+
+    // The bytes of one value. A null has none, and neither has a place where there is no value.
+    fn text_at(&self, i: u64) -> &'a [u8]
+        ensures { result.now ≡ slice_index_or (slots [] self.now) i [] }
+    {
+        if i >= self.len() as u64 {
+            return &[];
+        }
+        let place = self.from + i as usize;
+        self.column.bytes_between(place, place + 1)
+    }
+
+    // Where the values at these places end, one behind the other.
+    fn gather_ends(&self, alloc: Global, at: &[u64]) -> Result<Vec<usize>, NoMemory>
+        ensures { IfOk result (λ ends. ends.items ≡ ends_of 0 (texts_at self.now at.now)) }
+    {
+        let mut ends = Vec::with_capacity(alloc, at.len())?;
+        let mut end: usize = 0;
+        for i in at {
+            // No memory holds more bytes.
+            let Some(next) = end.checked_add(self.text_at(*i).len()) else {
+                return Err(NoMemory);
+            };
+            ends.push(next)?;
+            end = next;
+        }
+        Ok(ends)
+    }
+
+    // The bytes of the values at these places, one behind the other, of which `size` are awaited.
+    fn gather_bytes(&self, alloc: Global, at: &[u64], size: usize) -> Result<Vec<u8>, NoMemory>
+        ensures { IfOk result (λ bytes. bytes.items ≡ concat (texts_at self.now at.now)) }
+    {
+        let mut bytes = Vec::with_capacity(alloc, size)?;
+        for i in at {
+            bytes.extend_from_slice(self.text_at(*i))?;
+        }
+        Ok(bytes)
+    }
+
+    // Which of the values at these places are there.
+    fn gather_validity(&self, alloc: Global, at: &[u64]) -> Result<Bits, NoMemory>
+        requires { All (λ i. i < length self.now) at.now }
+        ensures { IfOk result (λ bits. bits ≡ map is_some (values_at self.now at.now)) }
+    {
+        let (valid, from, to) = self.validity();
+        if from > 0 {
+            return valid.part(alloc, from, to)?.gather(alloc, at);
+        }
+        // Looking for a null in all of the column pays where much of it is gathered.
+        if to / 64 <= at.len() && valid.is_all() {
+            return Bits::ones(alloc, at.len());
+        }
+        valid.gather(alloc, at)
+    }
+
+    // The same where there may be no value at a place.
+    fn validity_or_null(&self, alloc: Global, at: &[u64]) -> Result<Bits, NoMemory>
+        ensures { IfOk result (λ bits. bits ≡ map is_some (values_at self.now at.now)) }
+    {
+        let mut bits = Bits::new(alloc);
+        bits.reserve(at.len())?;
+        for i in at {
+            bits.push(self.is_there(*i))?;
+        }
+        Ok(bits)
+    }
+
+    // Whether there is a value at a place.
+    fn is_there(&self, i: u64) -> bool
+        ensures { result ≡ is_some (slice_index_or self.now i None) }
+    {
+        i < self.len() as u64 && self.value_at(i as usize).is_some()
     }
 }

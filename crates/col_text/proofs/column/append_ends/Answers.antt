@@ -1,14 +1,14 @@
-use Rattle.std.proofs.Common.{◌+◌, [], arith}
-use Rattle.std.proofs.lemmas.Grind.{common_steps}
-use Rattle.sub_types.specs.Slots.{slots, length-slots}
-use Rattle.col_text.proofs.TextLaws.{offset_of-le, ends_of-more}
+use Rattle.std.proofs.Common.{◌∙◌, ◌++◌, ◌+◌, ◌-◌, ◌^◌, ◌%◌, [], ℕ, List, map, ap}
+use Rattle.std.proofs.lemmas.Result.{on_ok_weaker}
+use Rattle.sub_types.specs.Slots.{slots}
+use Rattle.col_text.proofs.EndLaws.{ends_of-moved_all}
 use Rattle.col_text.proofs.column.append_ends.Goals as goal
 
-pub overflow_add-start : goal.overflow_add-start
-overflow_add-start c = omega (arith, c.offset.ensures, offset_of-le (slots [] c.args.more.now) (c.loop-i.i + 1))
-
-pub loop-i-preserved : goal.loop-i-preserved
-loop-i-preserved c =
+pub returns-clause-ok : goal.returns-clause-ok
+returns-clause-ok c =
     let texts = slots [] c.args.more.now in
-    let step = ends_of-more c.args.start texts c.loop-i.i (omega (arith, length-slots [] c.args.more.now)) in
-    grind (arith, common_steps, step)
+    let start = c.args.start in
+    let begin = c.ends-begin.result.0 in
+    let move = λ (n : ℕ). (n + (start + (2 ^ 64 - begin)) % 2 ^ 64) % 2 ^ 64 in
+    let all = ap (map move) c.ends-begin.ensures.ends ∙ ends_of-moved_all texts start begin c.requires c.ends-begin.ensures.within in
+    on_ok_weaker c.extend_moved.result (λ added. added ∙ ap (λ (ends : List ℕ). c.args.ends.now.items ++ ends) all) c.extend_moved.ensures.ok

@@ -1,0 +1,55 @@
+-- Where the texts of a part of a column end, and where they end once they are moved.
+use Rattle.std.proofs.Common.{◌≡◌, ◌∙◌, ℕ, ◌+◌, ◌-◌, ◌^◌, ◌%◌, ◌<◌, ◌≤◌, List, [], ◌∷◌, ◌++◌, length, map, take, drop, refl, sym, ap, arith, add-zero, length-append}
+use Rattle.std.specs.List.{slice_range, concat}
+use Rattle.std.proofs.lemmas.List.{take-append-drop, length-take}
+use Rattle.std.proofs.lemmas.List.Folds.{drop_split}
+use Rattle.sub_types.specs.PartLaws.{length-part}
+use Rattle.col_text.specs.Text.{ends_of, offset_of}
+use Rattle.col_text.proofs.TextLaws.{length-ends_of, ends_of-append, slice-middle}
+
+-- the ends of a part
+pub ends_of-part : (texts : List (List ℕ)) (start a b : ℕ) → a ≤ b → b ≤ length texts → slice_range (ends_of start texts) a b ≡ ends_of (start + offset_of texts a) (slice_range texts a b)
+ends_of-part texts start a b rising within =
+    let middle = slice_range texts a b in
+    let front = ends_of start (take a texts) in
+    let place = start + offset_of texts a in
+    let back = ends_of (place + length (concat middle)) (drop b texts) in
+    let whole : texts ≡ take a texts ++ (middle ++ drop b texts) =
+    sym (take-append-drop a texts) ∙ ap (λ (rest : List (List ℕ)). take a texts ++ rest) (drop_split texts a b rising) in
+    let parts : ends_of start texts ≡ front ++ (ends_of place middle ++ back) =
+    ap (ends_of start) whole ∙ ends_of-append start (take a texts) (middle ++ drop b texts) ∙ ap (λ (rest : List ℕ). front ++ rest) (ends_of-append place middle (drop b texts)) in
+    let before : length front ≡ a = omega (arith, length-ends_of start (take a texts), length-take a texts) in
+    let last : b ≡ a + length (ends_of place middle) = omega (arith, length-ends_of place middle, length-part texts a b within) in
+    ap (λ ends. slice_range ends a b) parts
+    ∙ ap (λ n. slice_range (front ++ (ends_of place middle ++ back)) a n) last
+    ∙ slice-middle front (ends_of place middle) back a before
+
+-- a number that wraps round, added to a number above the first
+moved : (start begin x : ℕ) → start + x < 2 ^ 64 → begin + x < 2 ^ 64 → (begin + x + (start + (2 ^ 64 - begin)) % 2 ^ 64) % 2 ^ 64 ≡ start + x
+moved start begin x fits within = omega arith
+
+-- the ends of texts that begin elsewhere
+pub ends_of-moved : (texts : List (List ℕ)) (start begin done : ℕ) → start + (done + length (concat texts)) < 2 ^ 64 → begin + (done + length (concat texts)) < 2 ^ 64
+    → map (λ end. (end + (start + (2 ^ 64 - begin)) % 2 ^ 64) % 2 ^ 64) (ends_of (begin + done) texts) ≡ ends_of (start + done) texts
+ends_of-moved [] start begin done fits within = refl
+ends_of-moved (text ∷ texts) start begin done fits within =
+    let shift = (start + (2 ^ 64 - begin)) % 2 ^ 64 in
+    let size = length text in
+    let whole = length-append text (concat texts) in
+    let more : done + size + length (concat texts) ≡ done + length (text ++ concat texts) = omega (arith, whole) in
+    let there : begin + done + size ≡ begin + (done + size) = omega arith in
+    let here : start + (done + size) ≡ start + done + size = omega arith in
+    let first : (begin + done + size + shift) % 2 ^ 64 ≡ start + done + size =
+    ap (λ n. (n + shift) % 2 ^ 64) there ∙ moved start begin (done + size) (omega (arith, whole, fits)) (omega (arith, whole, within)) ∙ here in
+    let rest = ends_of-moved texts start begin (done + size) (omega (arith, more, fits)) (omega (arith, more, within)) in
+    ap (λ n. n ∷ map (λ end. (end + shift) % 2 ^ 64) (ends_of (begin + done + size) texts)) first
+    ∙ ap (λ n. (start + done + size) ∷ map (λ end. (end + shift) % 2 ^ 64) (ends_of n texts)) there
+    ∙ ap (λ ends. (start + done + size) ∷ ends) rest
+    ∙ ap (λ n. (start + done + size) ∷ ends_of n texts) here
+
+-- the same from the first text on
+pub ends_of-moved_all : (texts : List (List ℕ)) (start begin : ℕ) → start + length (concat texts) < 2 ^ 64 → begin + length (concat texts) < 2 ^ 64
+    → map (λ end. (end + (start + (2 ^ 64 - begin)) % 2 ^ 64) % 2 ^ 64) (ends_of begin texts) ≡ ends_of start texts
+ends_of-moved_all texts start begin fits within =
+    let shift = (start + (2 ^ 64 - begin)) % 2 ^ 64 in
+    ap (λ n. map (λ end. (end + shift) % 2 ^ 64) (ends_of n texts)) (sym (add-zero begin)) ∙ ends_of-moved texts start begin 0 (omega arith) (omega arith) ∙ ap (λ n. ends_of n texts) (add-zero start)
