@@ -1,16 +1,15 @@
 -- The bytes of truth values, eight to a byte.
-use Rattle.std.proofs.Common.{◌≡◌, ◌+◌, ◌-◌, ◌*◌, ◌/◌, ◌%◌, ◌^◌, ◌<◌, ◌≤◌, ◌∙◌, ℕ, zero, suc, List, [], ◌∷◌, ◌++◌, length, get_or, take, min, Bool, true, false, cond, add-zero, nat_eq, sym, ap, refl, arith, ⊎_elim}
+use Rattle.std.proofs.Common.{◌≡◌, ◌+◌, ◌-◌, ◌*◌, ◌/◌, ◌%◌, ◌^◌, ◌<◌, ◌≤◌, ◌∙◌, ℕ, zero, suc, List, [], ◌∷◌, ◌++◌, length, get_or, take, Bool, false, cond, nat_eq, sym, ap, refl, arith, ⊎_elim}
 use Rattle.std.specs.List.{range_with_len, sum_by}
 use Rattle.std.specs.Int.{bit_at}
 use Rattle.std.proofs.lemmas.Bool.{cases_lt}
 use Rattle.std.proofs.lemmas.Nat.{mod-pow-add}
 use Rattle.std.proofs.lemmas.Nat.Bits.{bit_at-lt}
-use Rattle.std.proofs.lemmas.List.{take_more, take_all, get_or_past, get_or-take, length-append, length-take, get_or_append_left, get_or_push}
+use Rattle.std.proofs.lemmas.List.{get_or_past, get_or-take, length-append, length-take, get_or_append_left, get_or_push}
 use Rattle.std.proofs.lemmas.List.Sums.{sum_by_push}
 use Rattle.std.proofs.lemmas.List.FromFn.{length-map-range_with_len, get_or-map-range_with_len, fill_by_all}
 use Rattle.sub_types.specs.Bits.{bit_of, bits_of, IsPacked}
 use Rattle.arrow_meta.specs.Buffers.{packed, byte_of_bits}
-use Rattle.arrow_write.specs.Bodies.{count_false}
 
 -- the number whose first so many bits are these
 abbrev low_bits : (ℕ → Bool) → ℕ → ℕ
@@ -134,47 +133,3 @@ packed-rest n bytes out room small some is =
     let here : k ≡ whole = omega arith in
     ap (λ i. get_or (front ++ last ∷ []) i 0) here ∙ get_or_push front last 0 whole long_front ∙ last_is ∙ ap (λ i. byte_of_bits bits (8 * i)) (sym here))
     (cases_lt k whole))
-
--- each bit of 255 is set
-bit_of_255 : (j : ℕ) → j < 8 → nat_eq (bit_at 255 j) 1 ≡ true
-bit_of_255 zero h = refl
-bit_of_255 (suc zero) h = refl
-bit_of_255 (suc (suc zero)) h = refl
-bit_of_255 (suc (suc (suc zero))) h = refl
-bit_of_255 (suc (suc (suc (suc zero)))) h = refl
-bit_of_255 (suc (suc (suc (suc (suc zero))))) h = refl
-bit_of_255 (suc (suc (suc (suc (suc (suc zero)))))) h = refl
-bit_of_255 (suc (suc (suc (suc (suc (suc (suc zero))))))) h = refl
-bit_of_255 (suc (suc (suc (suc (suc (suc (suc (suc j)))))))) h = absurd (omega arith)
-
--- one more bit, which is true
-count_more : (bits : List Bool) (i : ℕ) → (i < length bits → get_or bits i false ≡ true) → count_false (take (suc i) bits) ≡ count_false (take i bits)
-count_more bits i valid =
-    let next : suc i ≡ i + 1 = omega arith in
-    ⊎_elim
-    (λ (below : i < length bits).
-    ap (λ n. count_false (take n bits)) next ∙ ap count_false (take_more bits i false below) ∙ sum_by_push (λ bit. cond bit 0 1) (take i bits) (get_or bits i false)
-    ∙ ap (λ bit. count_false (take i bits) + cond bit 0 1) (valid below) ∙ add-zero (count_false (take i bits)))
-    (λ (past : length bits ≤ i). ap count_false (take_all (suc i) bits (omega arith) ∙ sym (take_all i bits past)))
-    (cases_lt i (length bits))
-
--- several more
-count_most : (bits : List Bool) (from m : ℕ) → ((j : ℕ) → j < m → from + j < length bits → get_or bits (from + j) false ≡ true) → count_false (take (from + m) bits) ≡ count_false (take from bits)
-count_most bits from zero valid = ap (λ n. count_false (take n bits)) (add-zero from)
-count_most bits from (suc m) valid =
-    let next : from + suc m ≡ suc (from + m) = omega arith in
-    ap (λ n. count_false (take n bits)) next ∙ count_more bits (from + m) (valid m (omega arith)) ∙ count_most bits from m (λ j h. valid j (omega arith))
-
--- under a byte of 255 none is false
-pub count-full : (bits : List Bool) (bytes : List ℕ) (place : ℕ) → bits_of (length bits) bytes ≡ bits → get_or bytes place 0 ≡ 255 → count_false (take (8 * place + 8) bits) ≡ count_false (take (8 * place) bits)
-count-full bits bytes place view full =
-    count_most bits (8 * place) 8 (λ j few below.
-    bit_there (length bits) bits bytes place j (sym view) few below ∙ ap (λ byte. nat_eq (bit_at byte j) 1) full ∙ bit_of_255 j few)
-
--- past the last there is nothing to count
-pub count-to : (bits : List Bool) (from to : ℕ) → from < length bits → to ≡ from + min (length bits - from) 8 → count_false (take to bits) ≡ count_false (take (from + 8) bits)
-count-to bits from to within is =
-    ⊎_elim
-    (λ (past : length bits < from + 8). ap count_false (take_all to bits (omega (arith, is)) ∙ sym (take_all (from + 8) bits (omega arith))))
-    (λ (whole : from + 8 ≤ length bits). let same : to ≡ from + 8 = omega (arith, is) in ap (λ n. count_false (take n bits)) same)
-    (cases_lt (length bits) (from + 8))

@@ -1,5 +1,5 @@
 // Truth values as the bytes of a bitmap (Arrow columnar format, validity bitmaps).
-ghost use Rattle.std.specs.Prelude.{◌≡◌, ◌+◌, ◌≤◌, IfOk, length, take};
+ghost use Rattle.std.specs.Prelude.{◌≡◌, IfOk};
 ghost use Rattle.sub_types.specs.Bits.{bits_of, IsPacked};
 ghost use Rattle.arrow_meta.specs.Buffers.{packed};
 ghost use Rattle.arrow_write.specs.Bodies as spec;
@@ -7,36 +7,12 @@ ghost use Rattle.arrow_write.specs.Bodies as spec;
 use std::alloc::Global;
 use sub_types::{Bits, NoMemory};
 
-// How many are false. A byte of 255 has none, and is skipped.
+// How many are false.
+#[tactic(auto, using(crate::proofs::KindBuffers::count_both))]
 pub(crate) fn count_false(bits: &Bits) -> usize
     ensures { result ≡ spec.count_false bits.now }
 {
-    let len = bits.len();
-    let bytes = bits.bytes();
-    let mut count = 0;
-    'bytes: for place in 0..bytes.len() {
-        if bytes[place] != 255 {
-            let from = 8 * place;
-            count += count_between(bits, from, from + (len - from).min(8));
-        }
-    }
-    count
-}
-
-// How many are false from a place to before another.
-fn count_between(bits: &Bits, from: usize, to: usize) -> usize
-    requires rising { from ≤ to }
-    requires within { to ≤ length bits.now }
-    ensures counted { spec.count_false (take from bits.now) + result ≡ spec.count_false (take to bits.now) }
-    ensures few { from + result ≤ to }
-{
-    let mut count = 0;
-    for i in from..to {
-        if !bits.get(i) {
-            count += 1;
-        }
-    }
-    count
+    bits.len() - bits.count()
 }
 
 // Eight to a byte, the unused bits 0.

@@ -2,7 +2,7 @@ use Rattle.std.proofs.Common.{[], ◌≡◌, ◌+◌, ◌*◌, ◌++◌, ◌∙�
 use Rattle.std.proofs.lemmas.List.{take_at}
 use Rattle.byteorder.specs.Endian.{little_bytes}
 use Rattle.sub_types.specs.Slots.{slots, length-slots}
-use Rattle.arrow_write.proofs.TextEnds.{AreWritten, AreWritten-none, AreWritten-more, AreWritten-all}
+use Rattle.arrow_write.proofs.TextEnds.{AreWritten, AreWritten-more}
 use Rattle.arrow_write.proofs.values.offset_bytes.Goals as goal
 
 pub loop-i-preserved : goal.loop-i-preserved
