@@ -1,6 +1,6 @@
 -- The buffers of a column by its kind are those by how it is stored.
-use Rattle.std.proofs.Common.{◌≡◌, ◌+◌, ◌∙◌, ℕ, ℤ, pos, List, [], ◌∷◌, ◌++◌, map, Bool, true, false, cond, ◌&&◌, Option, Some, None, is_some, unwrap_or, sym, ap, refl, subst, arith}
-use Rattle.std.specs.List.{flat_map, concat, list_all}
+use Rattle.std.proofs.Common.{◌≡◌, ◌+◌, ◌∙◌, ℕ, ℤ, pos, List, [], ◌∷◌, ◌++◌, length, map, Bool, true, false, cond, ◌&&◌, Option, Some, None, is_some, unwrap_or, sym, ap, refl, subst, arith}
+use Rattle.std.specs.List.{flat_map, concat, list_all, count_by}
 use Rattle.std.specs.Int.{w8, w16, w32, w64, w128, cast_unsigned}
 use Rattle.std.proofs.lemmas.List.Sums.{sum_by-cons}
 use Rattle.byteorder.specs.Endian.{little_bytes}
@@ -72,6 +72,12 @@ nulls-of-bits [] = refl
 nulls-of-bits (value ∷ column) =
     sum_by-cons (λ bit. cond bit 0 1) (is_valid value) (map is_valid column) ∙ ap (λ n. cond (is_valid value) 0 1 + n) (nulls-of-bits column)
     ∙ sym (sum_by-cons (λ v. cond (is_valid v) 0 1) value column)
+
+-- each truth value is true or false
+pub count_both : (bits : List Bool) → count_false bits + count_by (λ bit. bit) bits ≡ length bits
+count_both [] = refl
+count_both (true ∷ bits) = omega (arith, count_both bits, sum_by-cons (λ bit. cond bit 0 1) true bits, sum_by-cons (λ bit. cond bit 1 0) true bits)
+count_both (false ∷ bits) = omega (arith, count_both bits, sum_by-cons (λ bit. cond bit 0 1) false bits, sum_by-cons (λ bit. cond bit 1 0) false bits)
 
 -- no false among the truth values, or one
 all_true : (bits : List Bool) → count_false bits ≡ 0 → list_all (λ bit. bit) bits ≡ true

@@ -1,7 +1,10 @@
 // The body of a record batch in the making.
 ghost use Rattle.std.specs.Prelude.{◌≡◌, ◌-◌, ◌++◌, [], ◌∷◌, OnOk, replicate};
+ghost use Rattle.std.specs.List.{flat_map};
 ghost use Rattle.fb_bytes.specs.Layout.{round_up};
 
+use crate::numbers::append_numbers;
+use col_fixed::Native;
 use std::alloc::Global;
 use sub_types::NoMemory;
 
@@ -51,6 +54,18 @@ impl Body {
         self.bytes.extend_from_slice(buffer)?;
         fill_up(&mut self.bytes, buffer.len())?;
         self.places.push((place, buffer.len() as i64))?;
+        Ok(())
+    }
+
+    // Adds a buffer of numbers, filled up likewise.
+    pub(crate) fn put_numbers<T: Native>(&mut self, numbers: &[T]) -> Result<(), NoMemory>
+        ensures put { OnOk result (Puts self.old self.new (flat_map T.bytes_of numbers.now ∷ [])) }
+        ensures nodes { OnOk result (self.new.nodes.items ≡ self.old.nodes.items) }
+    {
+        let place = self.bytes.len() as i64;
+        let len = append_numbers(&mut self.bytes, numbers)?;
+        fill_up(&mut self.bytes, len)?;
+        self.places.push((place, len as i64))?;
         Ok(())
     }
 }

@@ -16,6 +16,8 @@ pub(crate) fn put_message(out: &mut Vec<u8>, metadata: &[u8], body: &[u8]) -> Re
     requires { length metadata.now < 2 ^ 32 }
     ensures { OnOk result (out.new.items ≡ out.old.items ++ framed metadata.now body.now) }
 {
+    // Room for all at once.
+    out.reserve(body.len().saturating_add(metadata.len() + 8))?;
     out.extend_from_slice(&[255; 4])?;
     out.extend_from_slice(&(metadata.len() as u32).to_le_bytes())?;
     out.extend_from_slice(metadata)?;

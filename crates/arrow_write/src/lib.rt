@@ -13,6 +13,7 @@ mod file;
 mod frame;
 mod message;
 mod next;
+mod numbers;
 mod packing;
 mod put;
 mod values;

@@ -8,16 +8,11 @@ use std::alloc::Global;
 use sub_types::{Bits, NoMemory};
 
 // How many are false.
+#[tactic(auto, using(crate::proofs::KindBuffers::count_both))]
 pub(crate) fn count_false(bits: &Bits) -> usize
     ensures { result ≡ spec.count_false bits.now }
 {
-    let mut count = 0;
-    for i in 0..bits.len() {
-        if !bits.get(i) {
-            count += 1;
-        }
-    }
-    count
+    bits.len() - bits.count()
 }
 
 // Eight to a byte, the unused bits 0.

@@ -1,5 +1,5 @@
 // The value buffers of a column (Arrow columnar format, fixed-size primitive and variable-size binary layouts).
-ghost use Rattle.std.specs.Prelude.{◌≡◌, ◌++◌, ◌∷◌, [], IfOk, OnOk};
+ghost use Rattle.std.specs.Prelude.{◌≡◌, ◌+◌, ◌≤◌, ◌++◌, ◌∷◌, [], IfOk, OnOk, length, take, drop};
 ghost use Rattle.std.specs.List.{flat_map, concat};
 ghost use Rattle.byteorder.specs.Endian.{little_bytes};
 ghost use Rattle.sub_types.specs.Slots.{slots};
@@ -10,7 +10,6 @@ ghost use Rattle.arrow_write.specs.Stored.{stored_buffers};
 use crate::body::Body;
 use crate::packing::packed_bytes;
 use batch::ColumnData;
-use col_fixed::Native;
 use col_text::TextCol;
 use std::alloc::Global;
 use sub_types::NoMemory;
@@ -26,26 +25,13 @@ pub(crate) fn put_values(
 {
     match values {
         ColumnData::Bool(column) => body.put(&packed_bytes(alloc, column.values())?),
-        ColumnData::I8(column) => body.put(&number_bytes(alloc, column.values())?),
-        ColumnData::I16(column) => body.put(&number_bytes(alloc, column.values())?),
-        ColumnData::I32(column) => body.put(&number_bytes(alloc, column.values())?),
-        ColumnData::I64(column) => body.put(&number_bytes(alloc, column.values())?),
-        ColumnData::I128(column) => body.put(&number_bytes(alloc, column.values())?),
+        ColumnData::I8(column) => body.put_numbers(column.values()),
+        ColumnData::I16(column) => body.put_numbers(column.values()),
+        ColumnData::I32(column) => body.put_numbers(column.values()),
+        ColumnData::I64(column) => body.put_numbers(column.values()),
+        ColumnData::I128(column) => body.put_numbers(column.values()),
         ColumnData::Bytes(column) => put_texts(alloc, body, column),
     }
-}
-
-// The bytes of each number.
-fn number_bytes<T: Native>(alloc: Global, values: &[T]) -> Result<Vec<u8>, NoMemory>
-    ensures { IfOk result (λ bytes. bytes.items ≡ flat_map T.bytes_of values.now) }
-{
-    let mut word = vec![in alloc; 0; T::SIZE]?;
-    let mut bytes = Vec::new(alloc);
-    for value in values {
-        value.write_le(&mut word);
-        bytes.extend_from_slice(&word)?;
-    }
-    Ok(bytes)
 }
 
 // Adds the offsets and the bytes of texts or binaries.
@@ -63,10 +49,23 @@ fn put_texts(alloc: Global, body: &mut Body, column: &TextCol) -> Result<(), NoM
 fn offset_bytes(alloc: Global, column: &TextCol) -> Result<Vec<u8>, NoMemory>
     ensures { IfOk result (λ bytes. bytes.items ≡ little_bytes 4 0 ++ text_ends 0 (slots [] column.now)) }
 {
-    let mut bytes = Vec::from_slice(alloc, &[0; 4])?;
+    let Some(ends) = column.len().checked_mul(4) else {
+        return Err(NoMemory);
+    };
+    let Some(len) = ends.checked_add(4) else {
+        return Err(NoMemory);
+    };
+    let mut bytes = vec![in alloc; 0; len]?;
     for i in 0..column.len() {
-        let end = column.offset(i + 1);
-        bytes.extend_from_slice(&end.to_le_bytes()[..4])?;
+        write_end(&mut bytes, 4 * i + 4, column.offset(i + 1));
     }
     Ok(bytes)
+}
+
+// Writes the low four bytes of where a text ends over those at a place.
+fn write_end(bytes: &mut [u8], place: usize, end: usize)
+    requires { place + 4 ≤ length bytes.old }
+    ensures { bytes.new ≡ take place bytes.old ++ (little_bytes 4 end ++ drop (place + 4) bytes.old) }
+{
+    bytes[place..place + 4].copy_from_slice(&end.to_le_bytes()[..4]);
 }

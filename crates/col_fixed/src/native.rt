@@ -1,8 +1,9 @@
 // Whole numbers of a fixed width, as a buffer of a column holds them: two's complement, little-endian
 // (Arrow columnar format, fixed-size primitive layout).
-ghost use Rattle.std.specs.Prelude.{◌≡◌, ℕ, ◌/◌, ◌<◌, List, length, map, slice_index, ℤ, pos, FitsSigned, IfOk, refl};
+ghost use Rattle.std.specs.Prelude.{◌≡◌, ℕ, ◌*◌, ◌/◌, ◌<◌, List, length, map, slice_index, ℤ, pos, FitsSigned, IfOk, refl};
 ghost use Rattle.std.specs.Int.{Width, w8, w16, w32, w64, w128, cast_signed, cast_unsigned};
 ghost use Rattle.std.specs.Ordering.{int_cmp};
+ghost use Rattle.std.specs.List.{flat_map};
 ghost use Rattle.std.specs.Simd.{first_chunks};
 ghost use Rattle.std.specs.Cmp.{IsTotalOrder, int_cmp_total};
 ghost use Rattle.byteorder.specs.Endian.{little_bytes, little_number};
@@ -49,6 +50,11 @@ pub trait Native: Copy {
     fn write_le(self, into: &mut [u8])
         requires { length into.old ≡ SIZE }
         ensures { into.new ≡ bytes_of self };
+
+    /// Writes all values one behind the other, each as `SIZE` bytes, the lowest first.
+    fn write_all(values: &[Self], into: &mut [u8])
+        requires { length into.old ≡ SIZE * length values.now }
+        ensures { into.new ≡ flat_map bytes_of values.now };
 
     /// How the two compare as whole numbers.
     fn order(self, other: Self) -> Ordering
@@ -114,6 +120,12 @@ impl Native for i8 {
         into[0] = self.cast_unsigned();
     }
 
+    fn write_all(values: &[i8], into: &mut [u8]) {
+        'values: for i in 0..values.len() {
+            into[i] = values[i].cast_unsigned();
+        }
+    }
+
     fn order(self, other: i8) -> Ordering {
         self.cmp(&other)
     }
@@ -171,6 +183,10 @@ impl Native for i16 {
 
     fn write_le(self, into: &mut [u8]) {
         LittleEndian::write_i16(into, self);
+    }
+
+    fn write_all(values: &[i16], into: &mut [u8]) {
+        LittleEndian::write_i16_into(values, into);
     }
 
     fn order(self, other: i16) -> Ordering {
@@ -232,6 +248,10 @@ impl Native for i32 {
         LittleEndian::write_i32(into, self);
     }
 
+    fn write_all(values: &[i32], into: &mut [u8]) {
+        LittleEndian::write_i32_into(values, into);
+    }
+
     fn order(self, other: i32) -> Ordering {
         self.cmp(&other)
     }
@@ -291,6 +311,10 @@ impl Native for i64 {
         LittleEndian::write_i64(into, self);
     }
 
+    fn write_all(values: &[i64], into: &mut [u8]) {
+        LittleEndian::write_i64_into(values, into);
+    }
+
     fn order(self, other: i64) -> Ordering {
         self.cmp(&other)
     }
@@ -348,6 +372,10 @@ impl Native for i128 {
 
     fn write_le(self, into: &mut [u8]) {
         LittleEndian::write_i128(into, self);
+    }
+
+    fn write_all(values: &[i128], into: &mut [u8]) {
+        LittleEndian::write_i128_into(values, into);
     }
 
     fn order(self, other: i128) -> Ordering {

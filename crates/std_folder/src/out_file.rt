@@ -87,7 +87,9 @@ fn emptied<R: Files<File = File>>(files: &R, name: &str) -> io::Result<File> {
         .append(true)
         .create(true)
         .open(files, name)?;
-    if file.metadata()?.is_file() {
+    // A file that is empty isn't cut: some systems write a file out at once when it is closed after a cut.
+    let metadata = file.metadata()?;
+    if metadata.is_file() && metadata.len() > 0 {
         file.set_len(0)?;
     }
     Ok(file)
