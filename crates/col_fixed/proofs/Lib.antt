@@ -1,3 +1,4 @@
 pub mod Cleared
 pub mod ColumnLaws
 pub mod GatherLaws
+pub mod LaneLaws

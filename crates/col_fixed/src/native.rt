@@ -1,10 +1,13 @@
 // Whole numbers of a fixed width, as a buffer of a column holds them: two's complement, little-endian
 // (Arrow columnar format, fixed-size primitive layout).
-ghost use Rattle.std.specs.Prelude.{◌≡◌, ℕ, ◌*◌, ◌/◌, ◌<◌, List, length, map, slice_index, ℤ, pos, FitsSigned, IfOk, refl};
-ghost use Rattle.std.specs.Int.{Width, w8, w16, w32, w64, w128, cast_signed, cast_unsigned};
-ghost use Rattle.std.specs.Ordering.{int_cmp};
+ghost use Rattle.std.specs.Prelude.{◌≡◌, ℕ, ◌*◌, ◌/◌, ◌<◌, List, length, map, slice_index, slice_index_or, ℤ, pos, ◌+ℤ◌, ◌-ℤ◌, ◌*ℤ◌, FitsSigned, IfOk, refl};
+ghost use Rattle.std.specs.Bool.{FalseIff};
+ghost use Rattle.std.specs.Int.{Width, w8, w16, w32, w64, w128, cast_signed, cast_unsigned, int_wrap};
+ghost use Rattle.std.specs.Ordering.{int_cmp, is_eq, is_lt};
 ghost use Rattle.std.specs.List.{flat_map};
+ghost use mir.Val.{bits};
 ghost use Rattle.std.specs.Simd.{first_chunks};
+ghost use Rattle.std.specs.Simd.Lanes.{zip2, mask_l};
 ghost use Rattle.std.specs.Cmp.{IsTotalOrder, int_cmp_total};
 ghost use Rattle.byteorder.specs.Endian.{little_bytes, little_number};
 ghost use Rattle.byteorder.specs.Numbers.{length-bytes_low_first};
@@ -13,6 +16,7 @@ ghost use Rattle.col_fixed.specs.Native.{has_bytes, reads_back, read_fits};
 use byteorder::{ByteOrder, LittleEndian};
 use std::alloc::Global;
 use std::cmp::Ordering;
+use std::simd::prelude::*;
 use sub_types::NoMemory;
 
 /// A signed whole number that takes `SIZE` bytes.
@@ -60,8 +64,46 @@ pub trait Native: Copy {
     fn order(self, other: Self) -> Ordering
         ensures { result ≡ int_cmp (number self) (number other) };
 
+    /// Which of eight values are less than those at their places, the first in the lowest bit.
+    fn less_of_eight(left: &[Self], right: &[Self]) -> u8
+        requires left { length left.now ≡ 8 }
+        requires right { length right.now ≡ 8 }
+        ensures { result ≡ mask_l (zip2 (λ x y. is_lt (int_cmp (number x) (number y))) left.now right.now) };
+
+    /// Which of eight values are equal to those at their places, the first in the lowest bit.
+    fn equal_of_eight(left: &[Self], right: &[Self]) -> u8
+        requires left { length left.now ≡ 8 }
+        requires right { length right.now ≡ 8 }
+        ensures { result ≡ mask_l (zip2 (λ x y. is_eq (int_cmp (number x) (number y))) left.now right.now) };
+
+    /// The whole number, in 128 bits.
+    fn wide(self) -> i128
+        ensures value { result ≡ number self }
+        ensures fits { FitsSigned width (number self) };
+
+    /// What is left of a whole number in the bits of the type, in two's complement.
+    fn wrapped(n: i128) -> Self
+        ensures { number result ≡ int_wrap width n };
+
+    /// What is left of the sum, and whether that isn't the sum.
+    fn plus(self, other: Self) -> (Self, bool)
+        ensures value { number result.0 ≡ int_wrap width (number self +ℤ number other) }
+        ensures lost { FalseIff result.1 (FitsSigned width (number self +ℤ number other)) };
+
+    /// What is left of the difference, and whether that isn't the difference.
+    fn minus(self, other: Self) -> (Self, bool)
+        ensures value { number result.0 ≡ int_wrap width (number self -ℤ number other) }
+        ensures lost { FalseIff result.1 (FitsSigned width (number self -ℤ number other)) };
+
+    /// What is left of the product, and whether that isn't the product.
+    fn times(self, other: Self) -> (Self, bool)
+        ensures value { number result.0 ≡ int_wrap width (number self *ℤ number other) }
+        ensures lost { FalseIff result.1 (FitsSigned width (number self *ℤ number other)) };
+
     // A value takes a byte at least.
     ghost has_bytes: { 0 < SIZE };
+
+    ghost sized: { bits width ≡ 8 * SIZE };
 
     // Reading what was written gives the value.
     ghost reads_back: { (x : Self) → FitsSigned width (number x) → value_of (bytes_of x) ≡ x };
@@ -130,7 +172,45 @@ impl Native for i8 {
         self.cmp(&other)
     }
 
+    fn less_of_eight(left: &[i8], right: &[i8]) -> u8 {
+        i8_fit(left);
+        i8_fit(right);
+        i8x8::from_slice(left)
+            .simd_lt(i8x8::from_slice(right))
+            .to_bitmask() as u8
+    }
+
+    fn equal_of_eight(left: &[i8], right: &[i8]) -> u8 {
+        i8_fit(left);
+        i8_fit(right);
+        i8x8::from_slice(left)
+            .simd_eq(i8x8::from_slice(right))
+            .to_bitmask() as u8
+    }
+
+    fn wide(self) -> i128 {
+        i128::from(self)
+    }
+
+    fn wrapped(n: i128) -> i8 {
+        (n.rem_euclid(1 << 8) as u8).cast_signed()
+    }
+
+    fn plus(self, other: i8) -> (i8, bool) {
+        self.overflowing_add(other)
+    }
+
+    fn minus(self, other: i8) -> (i8, bool) {
+        self.overflowing_sub(other)
+    }
+
+    fn times(self, other: i8) -> (i8, bool) {
+        self.overflowing_mul(other)
+    }
+
     ghost has_bytes = { has_bytes 0 };
+
+    ghost sized = { refl };
 
     ghost reads_back = { λ x fits. reads_back w8 1 refl x fits };
 
@@ -193,7 +273,45 @@ impl Native for i16 {
         self.cmp(&other)
     }
 
+    fn less_of_eight(left: &[i16], right: &[i16]) -> u8 {
+        i16_fit(left);
+        i16_fit(right);
+        i16x8::from_slice(left)
+            .simd_lt(i16x8::from_slice(right))
+            .to_bitmask() as u8
+    }
+
+    fn equal_of_eight(left: &[i16], right: &[i16]) -> u8 {
+        i16_fit(left);
+        i16_fit(right);
+        i16x8::from_slice(left)
+            .simd_eq(i16x8::from_slice(right))
+            .to_bitmask() as u8
+    }
+
+    fn wide(self) -> i128 {
+        i128::from(self)
+    }
+
+    fn wrapped(n: i128) -> i16 {
+        (n.rem_euclid(1 << 16) as u16).cast_signed()
+    }
+
+    fn plus(self, other: i16) -> (i16, bool) {
+        self.overflowing_add(other)
+    }
+
+    fn minus(self, other: i16) -> (i16, bool) {
+        self.overflowing_sub(other)
+    }
+
+    fn times(self, other: i16) -> (i16, bool) {
+        self.overflowing_mul(other)
+    }
+
     ghost has_bytes = { has_bytes 1 };
+
+    ghost sized = { refl };
 
     ghost reads_back = { λ x fits. reads_back w16 2 refl x fits };
 
@@ -256,7 +374,45 @@ impl Native for i32 {
         self.cmp(&other)
     }
 
+    fn less_of_eight(left: &[i32], right: &[i32]) -> u8 {
+        i32_fit(left);
+        i32_fit(right);
+        i32x8::from_slice(left)
+            .simd_lt(i32x8::from_slice(right))
+            .to_bitmask() as u8
+    }
+
+    fn equal_of_eight(left: &[i32], right: &[i32]) -> u8 {
+        i32_fit(left);
+        i32_fit(right);
+        i32x8::from_slice(left)
+            .simd_eq(i32x8::from_slice(right))
+            .to_bitmask() as u8
+    }
+
+    fn wide(self) -> i128 {
+        i128::from(self)
+    }
+
+    fn wrapped(n: i128) -> i32 {
+        (n.rem_euclid(1 << 32) as u32).cast_signed()
+    }
+
+    fn plus(self, other: i32) -> (i32, bool) {
+        self.overflowing_add(other)
+    }
+
+    fn minus(self, other: i32) -> (i32, bool) {
+        self.overflowing_sub(other)
+    }
+
+    fn times(self, other: i32) -> (i32, bool) {
+        self.overflowing_mul(other)
+    }
+
     ghost has_bytes = { has_bytes 3 };
+
+    ghost sized = { refl };
 
     ghost reads_back = { λ x fits. reads_back w32 4 refl x fits };
 
@@ -319,7 +475,45 @@ impl Native for i64 {
         self.cmp(&other)
     }
 
+    fn less_of_eight(left: &[i64], right: &[i64]) -> u8 {
+        i64_fit(left);
+        i64_fit(right);
+        i64x8::from_slice(left)
+            .simd_lt(i64x8::from_slice(right))
+            .to_bitmask() as u8
+    }
+
+    fn equal_of_eight(left: &[i64], right: &[i64]) -> u8 {
+        i64_fit(left);
+        i64_fit(right);
+        i64x8::from_slice(left)
+            .simd_eq(i64x8::from_slice(right))
+            .to_bitmask() as u8
+    }
+
+    fn wide(self) -> i128 {
+        i128::from(self)
+    }
+
+    fn wrapped(n: i128) -> i64 {
+        (n.rem_euclid(1 << 64) as u64).cast_signed()
+    }
+
+    fn plus(self, other: i64) -> (i64, bool) {
+        self.overflowing_add(other)
+    }
+
+    fn minus(self, other: i64) -> (i64, bool) {
+        self.overflowing_sub(other)
+    }
+
+    fn times(self, other: i64) -> (i64, bool) {
+        self.overflowing_mul(other)
+    }
+
     ghost has_bytes = { has_bytes 7 };
+
+    ghost sized = { refl };
 
     ghost reads_back = { λ x fits. reads_back w64 8 refl x fits };
 
@@ -382,7 +576,53 @@ impl Native for i128 {
         self.cmp(&other)
     }
 
+    fn less_of_eight(left: &[i128], right: &[i128]) -> u8 {
+        i128_fit(left);
+        i128_fit(right);
+        let mut mask = 0;
+        for i in 0..8 {
+            if left[i] < right[i] {
+                mask += 1 << i;
+            }
+        }
+        mask
+    }
+
+    fn equal_of_eight(left: &[i128], right: &[i128]) -> u8 {
+        i128_fit(left);
+        i128_fit(right);
+        let mut mask = 0;
+        for i in 0..8 {
+            if left[i] == right[i] {
+                mask += 1 << i;
+            }
+        }
+        mask
+    }
+
+    fn wide(self) -> i128 {
+        self
+    }
+
+    fn wrapped(n: i128) -> i128 {
+        n
+    }
+
+    fn plus(self, other: i128) -> (i128, bool) {
+        self.overflowing_add(other)
+    }
+
+    fn minus(self, other: i128) -> (i128, bool) {
+        self.overflowing_sub(other)
+    }
+
+    fn times(self, other: i128) -> (i128, bool) {
+        self.overflowing_mul(other)
+    }
+
     ghost has_bytes = { has_bytes 15 };
+
+    ghost sized = { refl };
 
     ghost reads_back = { λ x fits. reads_back w128 16 refl x fits };
 
@@ -399,4 +639,83 @@ impl Native for i128 {
     ghost length_bytes = { λ x. length-bytes_low_first 0 16 (cast_unsigned w128 x) };
 
     ghost read_fits = { λ bytes all. read_fits w128 16 refl bytes all };
+}
+
+// Each number fits its type. It does nothing when it runs.
+fn i8_fit(all: &[i8])
+    ensures { (i : ℕ) → i < length all.now → FitsSigned w8 (slice_index_or all.now i (pos 0)) }
+{
+    for x in all {
+        let _ = i8_fits(x);
+    }
+}
+
+fn i8_fits(x: &i8) -> i8
+    ensures fits { FitsSigned w8 x.now }
+    ensures value { result ≡ x.now }
+{
+    *x
+}
+
+// Each number fits its type. It does nothing when it runs.
+fn i16_fit(all: &[i16])
+    ensures { (i : ℕ) → i < length all.now → FitsSigned w16 (slice_index_or all.now i (pos 0)) }
+{
+    for x in all {
+        let _ = i16_fits(x);
+    }
+}
+
+fn i16_fits(x: &i16) -> i16
+    ensures fits { FitsSigned w16 x.now }
+    ensures value { result ≡ x.now }
+{
+    *x
+}
+
+// Each number fits its type. It does nothing when it runs.
+fn i32_fit(all: &[i32])
+    ensures { (i : ℕ) → i < length all.now → FitsSigned w32 (slice_index_or all.now i (pos 0)) }
+{
+    for x in all {
+        let _ = i32_fits(x);
+    }
+}
+
+fn i32_fits(x: &i32) -> i32
+    ensures fits { FitsSigned w32 x.now }
+    ensures value { result ≡ x.now }
+{
+    *x
+}
+
+// Each number fits its type. It does nothing when it runs.
+fn i64_fit(all: &[i64])
+    ensures { (i : ℕ) → i < length all.now → FitsSigned w64 (slice_index_or all.now i (pos 0)) }
+{
+    for x in all {
+        let _ = i64_fits(x);
+    }
+}
+
+fn i64_fits(x: &i64) -> i64
+    ensures fits { FitsSigned w64 x.now }
+    ensures value { result ≡ x.now }
+{
+    *x
+}
+
+fn i128_fit(all: &[i128])
+    ensures { (i : ℕ) → i < length all.now → FitsSigned w128 (slice_index_or all.now i (pos 0)) }
+{
+    for x in all {
+        let _ = i128_fits(x);
+    }
+}
+
+fn i128_fits(x: &i128) -> i128
+    ensures fits { FitsSigned w128 x.now }
+    ensures value { result ≡ x.now }
+{
+    *x
 }

@@ -3,3 +3,5 @@ pub mod SegmentLaws
 pub mod SignLaws
 pub mod StepLaws
 pub mod EndLaws
+pub mod TruthLaws
+pub mod PlaceLaws

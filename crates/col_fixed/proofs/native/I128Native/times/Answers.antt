@@ -1,0 +1,6 @@
+use Rattle.std.specs.Int.{w128}
+use Rattle.col_fixed.proofs.LaneLaws.{left_of_product}
+use Rattle.col_fixed.proofs.native.I128Native.times.Goals as goal
+
+pub returns-clause-value : goal.returns-clause-value
+returns-clause-value c = left_of_product w128 c.args.self c.args.other _ c.ranges.self c.ranges.other c.overflowing_mul.ensures.value

@@ -1,0 +1,12 @@
+use Rattle.std.proofs.Common.{to_z}
+use lib.Signed.{lt_z}
+use Rattle.std.specs.Int.{w32}
+use Rattle.std.specs.Ordering.{is_lt, int_cmp}
+use Rattle.col_fixed.proofs.LaneLaws.{mask, byte, less}
+use Rattle.col_fixed.proofs.native.I32Native.less_of_eight.Goals as goal
+
+pub overflow_cast-result : goal.overflow_cast-result
+overflow_cast-result c = byte w32 (λ a b. lt_z (to_z w32 a) (to_z w32 b)) (λ x y. is_lt (int_cmp x y)) (less w32) c.args.left.now c.args.right.now c.requires.left c.requires.right c.i32_fit.ensures c.i32_fit-2.ensures
+
+pub returns : goal.returns
+returns c = mask w32 (λ a b. lt_z (to_z w32 a) (to_z w32 b)) (λ x y. is_lt (int_cmp x y)) (less w32) c.args.left.now c.args.right.now c.requires.left c.requires.right c.i32_fit.ensures c.i32_fit-2.ensures

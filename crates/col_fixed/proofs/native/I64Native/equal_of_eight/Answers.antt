@@ -1,0 +1,11 @@
+use Rattle.std.proofs.Common.{eqb}
+use Rattle.std.specs.Int.{w64}
+use Rattle.std.specs.Ordering.{is_eq, int_cmp}
+use Rattle.col_fixed.proofs.LaneLaws.{mask, byte, equal}
+use Rattle.col_fixed.proofs.native.I64Native.equal_of_eight.Goals as goal
+
+pub overflow_cast-result : goal.overflow_cast-result
+overflow_cast-result c = byte w64 eqb (λ x y. is_eq (int_cmp x y)) (equal w64) c.args.left.now c.args.right.now c.requires.left c.requires.right c.i64_fit.ensures c.i64_fit-2.ensures
+
+pub returns : goal.returns
+returns c = mask w64 eqb (λ x y. is_eq (int_cmp x y)) (equal w64) c.args.left.now c.args.right.now c.requires.left c.requires.right c.i64_fit.ensures c.i64_fit-2.ensures
