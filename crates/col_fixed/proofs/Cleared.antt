@@ -1,6 +1,9 @@
 -- A buffer whose nulls are cleared one after the other.
-use Rattle.std.proofs.Common.{◌≡◌, ◌≢◌, ◌∙◌, ℕ, zero, suc, ◌+◌, ◌*◌, ◌/◌, ◌%◌, ◌<◌, ◌≤◌, ◌==◌, List, length, get_or, set, Bool, true, false, inl, inr, refl, sym, ap, arith, zero-add, below_more, get_or-set_other, get_or-set_same}
+use Rattle.std.proofs.Common.{◌≡◌, ◌≢◌, ◌∙◌, ℕ, zero, suc, ◌+◌, ◌*◌, ◌^◌, ◌/◌, ◌%◌, ◌<◌, ◌≤◌, ◌==◌, List, length, get_or, set, take, bit_and, Bool, true, false, inl, inr, refl, sym, ap, arith, zero-add, below_more, get_or-set_other, get_or-set_same}
 use Rattle.std.specs.Int.{bit_at}
+use Rattle.std.specs.List.{All}
+use Rattle.std.proofs.lemmas.List.Elements.{All-more}
+use Rattle.std.proofs.lemmas.Nat.{and_le_l, and_le_r}
 use Rattle.std.proofs.lemmas.Bool.{cases_lt}
 use Rattle.std.proofs.lemmas.List.{length-set, get_or_past}
 use Rattle.std.proofs.lemmas.List.FromFn.{get_or-map-range_with_len}
@@ -56,7 +59,26 @@ valid_255 valid bytes place k bits full here below =
     ∙ ap (λ byte. bit_at byte (k % 8) == 1) (ap (λ i. get_or bytes i 0) here ∙ full)
     ∙ bit_at_255 (k % 8) (omega arith)
 
--- so there is nothing to clear
+-- where each byte is 255, there is nothing to clear
+pub IsColumn-full : {T : Type 0} (zero : T) (values : List T) (valid : List Bool) (bytes : List ℕ)
+    → length values ≡ length valid → bits_of (length valid) bytes ≡ valid → length valid ≤ 8 * length bytes → All (λ byte. byte ≡ 255) bytes → IsColumn zero values valid
+IsColumn-full d values valid bytes same bits enough full =
+    record {
+      same_length = same;
+      zeroed = slots-optional d values valid same (λ k below null.
+          let byte : get_or bytes (k / 8) 0 ≡ 255 = full (k / 8) 0 (omega (arith, same, enough)) in
+          let is : get_or valid k false ≡ true = valid_255 valid bytes (k / 8) k bits byte refl (omega (arith, same)) in
+          absurd (cc));
+    }
+
+-- one byte more that is 255, where all of them together are
+pub full-more : (bytes : List ℕ) (i all : ℕ) → i < length bytes → (all ≡ 255 → All (λ b. b ≡ 255) (take i bytes)) → all < 2 ^ 8 → get_or bytes i 0 < 2 ^ 8 → bit_and all (get_or bytes i 0) ≡ 255 → All (λ b. b ≡ 255) (take (i + 1) bytes)
+full-more bytes i all below before few few_more both =
+    let left = and_le_l all (get_or bytes i 0) in
+    let right = and_le_r all (get_or bytes i 0) in
+    All-more (λ b. b ≡ 255) bytes i 0 below (before (omega (arith, left, both))) (omega (arith, right, both))
+
+-- under a byte of 255 there is nothing to clear
 pub IsClearedBelow-full : {T : Type 0} (zero : T) (old new : List T) (valid : List Bool) (bytes : List ℕ) (place : ℕ)
     → IsClearedBelow zero old new valid (8 * place) → bits_of (length valid) bytes ≡ valid → get_or bytes place 0 ≡ 255 → IsClearedBelow zero old new valid (8 * place + 8)
 IsClearedBelow-full d old new valid bytes place kept bits full =

@@ -1,5 +1,5 @@
 // A column of numbers (Arrow columnar format, fixed-size primitive layout).
-ghost use Rattle.std.specs.Prelude.{◌≡◌, ◌↔◌, ◌+◌, ◌<◌, ◌∷◌, ◌++◌, List, [], Some, None, length, vec_len, map, replicate, is_some, slice_index_or, IfOk, OnOk, OnErr, IsTrue};
+ghost use Rattle.std.specs.Prelude.{◌≡◌, ◌↔◌, ◌+◌, ◌<◌, ◌∷◌, ◌++◌, List, [], Some, None, length, vec_len, map, replicate, is_some, slice_index_or, All, IfOk, OnOk, OnErr, IsTrue};
 ghost use Rattle.sub_types.specs.Optional.{optional};
 ghost use Rattle.sub_types.specs.Slots.{slots};
 ghost use Rattle.col_fixed.specs.Column.{IsColumn, IsClearedBelow};
@@ -54,7 +54,7 @@ impl<T: Native> Fixed<T> {
         requires { vec_len values ≡ length valid }
         ensures { result ≡ optional values.items valid }
     {
-        if valid.is_all() {
+        if are_full(valid.bytes()) {
             return Fixed { values, valid };
         }
         let mut values = values;
@@ -173,6 +173,17 @@ fn repeated<T: Native>(alloc: Global, value: T, n: usize) -> Result<Vec<T>, NoMe
         values.push_reserved(value);
     }
     Ok(values)
+}
+
+// Whether each byte is 255, which says of eight values that they are there.
+fn are_full(bytes: &[u8]) -> bool
+    ensures { IsTrue result → All (λ byte. byte ≡ 255) bytes.now }
+{
+    let mut all = 255;
+    for byte in bytes {
+        all &= *byte;
+    }
+    all == 255
 }
 
 // Puts zero into the slots that aren't valid. A byte of 255 says that eight are, and is skipped.

@@ -151,10 +151,10 @@ impl Native for i8 {
 
     fn read_all(alloc: Global, bytes: &[u8]) -> Result<Vec<i8>, NoMemory> {
         let (chunks, _) = bytes.as_chunks::<1>();
-        let values = chunks
-            .iter()
-            .map(|chunk| chunk[0].cast_signed())
-            .collect(alloc)?;
+        let mut values = Vec::with_capacity(alloc, chunks.len())?;
+        for chunk in chunks {
+            values.push_reserved(chunk[0].cast_signed());
+        }
         Ok(values)
     }
 
@@ -254,10 +254,10 @@ impl Native for i16 {
 
     fn read_all(alloc: Global, bytes: &[u8]) -> Result<Vec<i16>, NoMemory> {
         let (chunks, _) = bytes.as_chunks::<2>();
-        let values = chunks
-            .iter()
-            .map(|chunk| LittleEndian::read_i16(chunk))
-            .collect(alloc)?;
+        let mut values = Vec::with_capacity(alloc, chunks.len())?;
+        for chunk in chunks {
+            values.push_reserved(LittleEndian::read_i16(chunk));
+        }
         Ok(values)
     }
 
@@ -355,10 +355,10 @@ impl Native for i32 {
 
     fn read_all(alloc: Global, bytes: &[u8]) -> Result<Vec<i32>, NoMemory> {
         let (chunks, _) = bytes.as_chunks::<4>();
-        let values = chunks
-            .iter()
-            .map(|chunk| LittleEndian::read_i32(chunk))
-            .collect(alloc)?;
+        let mut values = Vec::with_capacity(alloc, chunks.len())?;
+        for chunk in chunks {
+            values.push_reserved(LittleEndian::read_i32(chunk));
+        }
         Ok(values)
     }
 
@@ -456,10 +456,10 @@ impl Native for i64 {
 
     fn read_all(alloc: Global, bytes: &[u8]) -> Result<Vec<i64>, NoMemory> {
         let (chunks, _) = bytes.as_chunks::<8>();
-        let values = chunks
-            .iter()
-            .map(|chunk| LittleEndian::read_i64(chunk))
-            .collect(alloc)?;
+        let mut values = Vec::with_capacity(alloc, chunks.len())?;
+        for chunk in chunks {
+            values.push_reserved(LittleEndian::read_i64(chunk));
+        }
         Ok(values)
     }
 
@@ -557,10 +557,10 @@ impl Native for i128 {
 
     fn read_all(alloc: Global, bytes: &[u8]) -> Result<Vec<i128>, NoMemory> {
         let (chunks, _) = bytes.as_chunks::<16>();
-        let values = chunks
-            .iter()
-            .map(|chunk| LittleEndian::read_i128(chunk))
-            .collect(alloc)?;
+        let mut values = Vec::with_capacity(alloc, chunks.len())?;
+        for chunk in chunks {
+            values.push_reserved(LittleEndian::read_i128(chunk));
+        }
         Ok(values)
     }
 
