@@ -1,3 +1,4 @@
 pub mod Segments
 pub mod Rising
 pub mod Truths
+pub mod Numbers

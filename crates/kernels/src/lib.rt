@@ -2,6 +2,7 @@
 //! `plan_denote`. It stands on `col_fixed` for columns and on `memchr` for searches.
 #![tactic(auto)]
 
+mod comparison;
 mod logic;
 mod op;
 mod pattern;
@@ -9,6 +10,7 @@ mod places;
 mod selection;
 mod text;
 
+pub use comparison::{compare, compare_constant};
 pub use logic::{and3, not3, or3, xor3};
 pub use op::{ArithOp, CompareOp};
 pub use pattern::like;
