@@ -6,3 +6,4 @@ pub mod EndLaws
 pub mod TruthLaws
 pub mod PlaceLaws
 pub mod CompareLaws
+pub mod TotalLaws

@@ -2,3 +2,4 @@ pub mod Segments
 pub mod Rising
 pub mod Truths
 pub mod Numbers
+pub mod Total

@@ -9,6 +9,7 @@ mod pattern;
 mod places;
 mod selection;
 mod text;
+mod total;
 
 pub use comparison::{compare, compare_constant};
 pub use logic::{and3, not3, or3, xor3};
@@ -17,3 +18,4 @@ pub use pattern::like;
 pub use places::select;
 pub use selection::{Selection, Stop};
 pub use text::{contains, ends_with, starts_with};
+pub use total::{WideSum, sum};
