@@ -5,3 +5,5 @@ pub mod StepLaws
 pub mod EndLaws
 pub mod TruthLaws
 pub mod PlaceLaws
+pub mod CompareLaws
+pub mod TotalLaws

@@ -1,3 +1,5 @@
 pub mod Segments
 pub mod Rising
 pub mod Truths
+pub mod Numbers
+pub mod Total
