@@ -1,5 +1,5 @@
 -- Comparisons lane by lane, and the bits that they set.
-use Rattle.std.proofs.Common.{◌≡◌, ◌≢◌, ◌+◌, ◌*◌, ◌++◌, ◌+ℤ◌, ◌-ℤ◌, ◌*ℤ◌, unsigned_abs, zero, suc, ◌∙◌, ℕ, ℤ, ◌-◌, ◌<◌, ◌≤◌, ◌<ℤ◌, ◌^◌, ◌%◌, List, [], ◌∷◌, Bool, true, false, length, map, get_or, cond, eqb, refl, sym, ap, ap₂, arith, FitsSigned, to_z, of_z, w8, Fits, pos, take, subst, add-one}
+use Rattle.std.proofs.Common.{◌≡◌, ◌≢◌, ◌+ℤ◌, ◌-ℤ◌, ◌*ℤ◌, unsigned_abs, ◌∙◌, ℕ, ℤ, ◌-◌, ◌<◌, ◌<ℤ◌, ◌^◌, ◌%◌, List, [], ◌∷◌, Bool, true, false, length, map, get_or, cond, eqb, refl, sym, ap, ap₂, arith, FitsSigned, to_z, of_z, w8, Fits, pos, take, subst}
 use mir.Syntax.{Width}
 use Rattle.std.specs.Int.{int_rem_euclid, int_wrap, int_wrapping_add, int_wrapping_sub, int_wrapping_mul, w128}
 use mir.Val.{hbits, bits}

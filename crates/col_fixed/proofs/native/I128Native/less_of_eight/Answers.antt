@@ -1,4 +1,4 @@
-use Rattle.std.proofs.Common.{◌≡◌, ◌∙◌, ℤ, Bool, pos, get_or, sym, arith}
+use Rattle.std.proofs.Common.{◌∙◌, ℤ, Bool, pos, get_or, sym, arith}
 use Rattle.std.specs.Int.{w128}
 use Rattle.std.specs.Ordering.{is_lt, int_cmp}
 use Rattle.col_fixed.specs.Masks.{mask-true, mask-false, mask-fits}
