@@ -1,5 +1,5 @@
 -- Indices in a buffer, and the values that they name.
-use Rattle.std.proofs.Common.{rules, tests, ◌≡◌, ◌∙◌, ℕ, zero, suc, ◌+◌, ◌*◌, ◌<◌, ◌≤◌, ◌==◌, ℤ, pos, List, [], ◌∷◌, ◌++◌, length, map, take, drop, get_or, Bool, true, false, Option, Some, None, nat_le, IsTrue, refl, sym, ap, arith, zero-add}
+use Rattle.std.proofs.Common.{rules, tests, ◌≡◌, ◌∙◌, ℕ, zero, suc, ◌+◌, ◌*◌, ◌<◌, ◌≤◌, ◌==◌, ℤ, pos, negsuc, slice_get, nat_lt, ◌⊎◌, inl, inr, List, [], ◌∷◌, ◌++◌, length, map, take, drop, get_or, Bool, true, false, Option, Some, None, nat_le, IsTrue, refl, sym, ap, arith, zero-add}
 use Rattle.std.specs.Int.{w8, w16, w32, w64}
 use Rattle.std.specs.List.{range_with_len}
 use Rattle.std.proofs.lemmas.Bool.{false≢true}
@@ -10,11 +10,28 @@ use Rattle.byteorder.specs.Endian.{little_number}
 use Rattle.sub_types.specs.Optional.{optional}
 use Rattle.sub_types.specs.OptionalLaws.{length-optional, get_or-optional_valid, get_or-optional_null}
 use Rattle.arrow_meta.specs.Known.{is_index_size}
-use Rattle.sub_types.specs.OptionSteps.{all_of}
+use Rattle.sub_types.specs.OptionSteps.{◌>>=◌, when, all_of}
+use Rattle.std.specs.Option.{option_map}
+use Rattle.std.proofs.lemmas.Option.{slice_get_past}
 use Rattle.arrow_meta.specs.Values.{unsigned_in, indices_in, named_value, encoded_in}
-use Rattle.arrow_decode.specs.Indices.{index_number}
-use Rattle.arrow_decode.proofs.ListLaws.{all_of-push, all_of-at}
+use Rattle.arrow_decode.specs.Indices.{index_number, optional_indices, place_among}
+use Rattle.arrow_decode.proofs.ListLaws.{all_of-step, all_of-missing}
 use Rattle.arrow_decode.proofs.NumberLaws.{map-map, signed_in-short, signed_in-long}
+
+-- a number is below another or not
+below_or_not : (a b : ℕ) → (a < b) ⊎ (b ≤ a)
+below_or_not a b = grind arith
+
+-- where there is no value, and where there is one
+nothing_past : {X : Type 0} (xs : List X) (i : ℕ) (d : X) → length xs ≤ i → get_or xs i d ≡ d
+nothing_past [] i d past = refl
+nothing_past (x ∷ xs) zero d past = absurd (omega arith)
+nothing_past (x ∷ xs) (suc i) d past = nothing_past xs i d (omega arith)
+
+slice_get_there : (xs : List (Option (List ℕ))) (i : ℕ) → i < length xs → slice_get xs i ≡ Some (get_or xs i None)
+slice_get_there [] i below = absurd (omega arith)
+slice_get_there (x ∷ xs) zero below = refl
+slice_get_there (x ∷ xs) (suc i) below = slice_get_there xs i (omega arith)
 
 -- no size is above 8
 no_size : (n : ℕ) → 9 ≤ n → is_index_size n ≡ false
@@ -60,10 +77,6 @@ indices_in-long size count true buffer is long =
     by_size (λ n. n * count ≤ length buffer → indices_in n true count buffer ≡ Some (map (index_number n true buffer) (range_with_len 0 count))) size is
     (signed_in-long w8 1 count buffer) (signed_in-long w16 2 count buffer) (signed_in-long w32 4 count buffer) (signed_in-long w64 8 count buffer) long
 
--- the indices of so many values
-abbrev pub optional_indices : ℕ → Bool → ℕ → List Bool → List ℕ → List (Option ℤ)
-optional_indices size signed count valid buffer = optional (map (index_number size signed buffer) (range_with_len 0 count)) valid
-
 pub encoded_in-short : (size count : ℕ) (signed : Bool) (valid : List Bool) (dictionary : List (Option (List ℕ))) (buffer : List ℕ) → IsTrue (is_index_size size) → length buffer < size * count
     → encoded_in size signed count valid dictionary buffer ≡ None
 unfolding encoded_in
@@ -79,45 +92,68 @@ length-optional_indices size count signed valid buffer same =
     let numbers = length-map-range_with_len (index_number size signed buffer) 0 count in
     length-optional (map (index_number size signed buffer) (range_with_len 0 count)) valid (numbers ∙ sym same) ∙ numbers
 
--- what the index at a place names
-named_by : (dictionary : List (Option (List ℕ))) (size count : ℕ) (signed : Bool) (valid : List Bool) (buffer : List ℕ) (i : ℕ) (r : Option (Option (List ℕ))) (b : Bool)
+-- the place that the index at a place names
+place_by : (values size count : ℕ) (signed : Bool) (valid : List Bool) (buffer : List ℕ) (i : ℕ) (r : Option ℕ) (b : Bool)
     → length valid ≡ count → i < count → get_or valid i false ≡ b
-    → (b ≡ false → r ≡ Some None) → (b ≡ true → r ≡ named_value dictionary (Some (index_number size signed buffer i)))
-    → named_value dictionary (get_or (optional_indices size signed count valid buffer) i None) ≡ r
-named_by dictionary size count signed valid buffer i r true same below is null there =
+    → (b ≡ false → r ≡ Some values) → (b ≡ true → r ≡ place_among values (Some (index_number size signed buffer i)))
+    → place_among values (get_or (optional_indices size signed count valid buffer) i None) ≡ r
+place_by values size count signed valid buffer i r true same below is null there =
     let numbers = map (index_number size signed buffer) (range_with_len 0 count) in
     let long = length-map-range_with_len (index_number size signed buffer) 0 count in
     let here = get_or-optional_valid numbers valid i (pos 0) (long ∙ sym same) is ∙ ap (λ n. Some n) (get_or-map-range_with_len (index_number size signed buffer) 0 count i i (pos 0) below (zero-add i)) in
-    ap (named_value dictionary) here ∙ sym (there refl)
-named_by dictionary size count signed valid buffer i r false same below is null there =
-    ap (named_value dictionary) (get_or-optional_null (map (index_number size signed buffer) (range_with_len 0 count)) valid i is) ∙ sym (null refl)
+    ap (place_among values) here ∙ sym (there refl)
+place_by values size count signed valid buffer i r false same below is null there =
+    ap (place_among values) (get_or-optional_null (map (index_number size signed buffer) (range_with_len 0 count)) valid i is) ∙ sym (null refl)
 
-pub named_at : (dictionary : List (Option (List ℕ))) (size count : ℕ) (signed : Bool) (valid : List Bool) (buffer : List ℕ) (i : ℕ) (r : Option (Option (List ℕ)))
+pub place_of : (values size count : ℕ) (signed : Bool) (valid : List Bool) (buffer : List ℕ) (i : ℕ) (r : Option ℕ)
     → length valid ≡ count → i < count
-    → (get_or valid i false ≡ false → r ≡ Some None) → (get_or valid i false ≡ true → r ≡ named_value dictionary (Some (index_number size signed buffer i)))
-    → named_value dictionary (get_or (optional_indices size signed count valid buffer) i None) ≡ r
-named_at dictionary size count signed valid buffer i r same below null there =
-    named_by dictionary size count signed valid buffer i r (get_or valid i false) same below refl null there
-
--- what the value at a place becomes
-get_or-map_at : (dictionary : List (Option (List ℕ))) (indices : List (Option ℤ)) (i : ℕ) → i < length indices → get_or (map (named_value dictionary) indices) i None ≡ named_value dictionary (get_or indices i None)
-get_or-map_at dictionary [] i below = absurd (omega arith)
-get_or-map_at dictionary (x ∷ indices) zero below = refl
-get_or-map_at dictionary (x ∷ indices) (suc i) below = get_or-map_at dictionary indices i (omega arith)
+    → (get_or valid i false ≡ false → r ≡ Some values) → (get_or valid i false ≡ true → r ≡ place_among values (Some (index_number size signed buffer i)))
+    → place_among values (get_or (optional_indices size signed count valid buffer) i None) ≡ r
+place_of values size count signed valid buffer i r same below null there =
+    place_by values size count signed valid buffer i r (get_or valid i false) same below refl null there
 
 -- one that names nothing
-pub names_nothing : (dictionary : List (Option (List ℕ))) (indices : List (Option ℤ)) (i : ℕ) → i < length indices → named_value dictionary (get_or indices i None) ≡ None → all_of (map (named_value dictionary) indices) ≡ None
-names_nothing dictionary indices i below nothing =
-    all_of-at (map (named_value dictionary) indices) i None (omega (arith, length-map indices (named_value dictionary))) (get_or-map_at dictionary indices i below ∙ nothing)
+pub names_nothing : (values : ℕ) (indices : List (Option ℤ)) (i : ℕ) → i < length indices → place_among values (get_or indices i None) ≡ None → all_of (map (place_among values) indices) ≡ None
+names_nothing values indices i below nothing = all_of-missing (place_among values) indices i None below nothing
 
--- the values so far and one more
-pub named_more : (dictionary : List (Option (List ℕ))) (indices : List (Option ℤ)) (i : ℕ) (texts : List (Option (List ℕ))) (text : Option (List ℕ)) → i < length indices
-    → all_of (map (named_value dictionary) (take i indices)) ≡ Some texts → named_value dictionary (get_or indices i None) ≡ Some text
-    → all_of (map (named_value dictionary) (take (i + 1) indices)) ≡ Some (texts ++ text ∷ [])
-named_more dictionary indices i texts text below all here =
-    ap (λ (xs : List (Option ℤ)). all_of (map (named_value dictionary) xs)) (take_more indices i None below)
-    ∙ ap all_of (map-append (named_value dictionary) (take i indices) (get_or indices i None ∷ []))
-    ∙ all_of-push (map (named_value dictionary) (take i indices)) (named_value dictionary (get_or indices i None)) texts text all here
+-- the places so far and one more
+pub places_more : (values : ℕ) (indices : List (Option ℤ)) (i : ℕ) (at : List ℕ) (place : ℕ) → i < length indices
+    → all_of (map (place_among values) (take i indices)) ≡ Some at → place_among values (get_or indices i None) ≡ Some place
+    → all_of (map (place_among values) (take (i + 1) indices)) ≡ Some (at ++ place ∷ [])
+places_more values indices i at place below all here = all_of-step (place_among values) indices i None at place below all here
+
+-- a value by its place
+named_by_place : (dictionary : List (Option (List ℕ))) (index : Option ℤ) → named_value dictionary index ≡ option_map (λ i. get_or dictionary i None) (place_among (length dictionary) index)
+named_by_place dictionary None = ap (λ v. Some v) (sym (nothing_past dictionary (length dictionary) None (omega arith)))
+named_by_place dictionary (Some (negsuc n)) = refl
+named_by_place dictionary (Some (pos n)) =
+    elim (below_or_not n (length dictionary)) as (λ _. slice_get dictionary n ≡ option_map (λ i. get_or dictionary i None) (when (nat_lt n (length dictionary)) (Some n))) [
+      | inl below ↦ let test : nat_lt n (length dictionary) ≡ true = search (rules, tests) in rw (slice_get_there dictionary n below, test) refl
+      | inr past ↦ let test : nat_lt n (length dictionary) ≡ false = search (rules, tests) in rw (slice_get_past dictionary n past, test) refl
+    ]
+
+-- and all of them
+pub named_by_places : (dictionary : List (Option (List ℕ))) (indices : List (Option ℤ))
+    → all_of (map (named_value dictionary) indices) ≡ option_map (λ at. map (λ i. get_or dictionary i None) at) (all_of (map (place_among (length dictionary)) indices))
+named_by_places dictionary [] = refl
+named_by_places dictionary (index ∷ indices) =
+    rw (named_by_place dictionary index, named_by_places dictionary indices) (joined (place_among (length dictionary) index) (all_of (map (place_among (length dictionary)) indices)))
+  where
+    joined : (one : Option ℕ) (rest : Option (List ℕ))
+        → (option_map (λ i. get_or dictionary i None) one >>= λ y. option_map (λ at. map (λ i. get_or dictionary i None) at) rest >>= λ ys. Some (y ∷ ys))
+        ≡ option_map (λ at. map (λ i. get_or dictionary i None) at) (one >>= λ y. rest >>= λ ys. Some (y ∷ ys))
+    joined None rest = refl
+    joined (Some place) None = refl
+    joined (Some place) (Some at) = refl
+
+-- what becomes of indices by what becomes of their places
+pub encoded_in-places : (size count values : ℕ) (signed : Bool) (valid : List Bool) (dictionary : List (Option (List ℕ))) (buffer : List ℕ) (found : Option (List ℕ)) → IsTrue (is_index_size size) → size * count ≤ length buffer
+    → values ≡ length dictionary → found ≡ all_of (map (place_among values) (optional_indices size signed count valid buffer))
+    → encoded_in size signed count valid dictionary buffer ≡ option_map (λ at. map (λ i. get_or dictionary i None) at) found
+encoded_in-places size count values signed valid dictionary buffer found is long same found_is =
+    let indices = optional_indices size signed count valid buffer in
+    encoded_in-long size count signed valid dictionary buffer is long ∙ named_by_places dictionary indices
+    ∙ ap (option_map (λ at. map (λ i. get_or dictionary i None) at)) (ap (λ n. all_of (map (place_among n) indices)) (sym same) ∙ sym found_is)
 
 -- there is room for each index
 pub room_for_index : (size count i : ℕ) (buffer : List ℕ) → size * count ≤ length buffer → i < count → size * (i + 1) ≤ length buffer

@@ -6,3 +6,4 @@ pub mod IndexLaws
 pub mod InKindLaws
 pub mod LengthLaws
 pub mod ChunkLaws
+pub mod CharacterLaws

@@ -4,3 +4,4 @@ pub mod Dictionary
 pub mod RawColumn
 pub mod Seen
 pub mod Buffers
+pub mod Characters

@@ -1,6 +1,7 @@
 -- Offsets of 8 bytes where they are wide, and else of 4.
-use Rattle.std.specs.Prelude.{ℕ, ℤ, ◌*◌, List, Bool, true, false, Option, drop}
-use Rattle.std.specs.Int.{w32, w64, cast_signed}
+use Rattle.std.specs.Prelude.{ℕ, ℤ, ◌+◌, ◌-◌, ◌*◌, ◌%◌, ◌^◌, List, [], ◌∷◌, map, Bool, true, false, ◌&&◌, nat_le, Option, Some, None, if◌then◌else◌, drop}
+use Rattle.std.specs.Int.{w32, w64}
+use Rattle.std.specs.List.{range_with_len}
 use Rattle.byteorder.specs.Endian.{little_number}
 use Rattle.arrow_meta.specs.Values.{offsets_in}
 
@@ -9,12 +10,33 @@ abbrev pub offsets_of : Bool → ℕ → List ℕ → Option (List ℕ)
 offsets_of true count buffer = offsets_in w64 8 count buffer
 offsets_of false count buffer = offsets_in w32 4 count buffer
 
--- the offset at a place
-abbrev pub offset_number : Bool → List ℕ → ℕ → ℤ
-offset_number true buffer i = cast_signed w64 (little_number 8 (drop (8 * i) buffer))
-offset_number false buffer i = cast_signed w32 (little_number 4 (drop (4 * i) buffer))
-
 -- how many bytes an offset has
 abbrev pub offset_width : Bool → ℕ
 offset_width true = 8
 offset_width false = 4
+
+-- the greatest of them
+abbrev pub greatest_offset : Bool → ℕ
+greatest_offset true = 2 ^ 63 - 1
+greatest_offset false = 2 ^ 31 - 1
+
+-- the offset at the front of a buffer, read without its sign
+abbrev pub front_offset : Bool → List ℕ → ℕ
+front_offset wide buffer = little_number (offset_width wide) buffer
+
+-- so many offsets from a place on, read without their signs
+abbrev pub raw_offsets : Bool → List ℕ → ℕ → ℕ → List ℕ
+raw_offsets wide buffer start n = map (λ k. front_offset wide (drop (offset_width wide * k) buffer)) (range_with_len start n)
+
+-- numbers behind the first, in the numbers of 64 bits
+abbrev pub behind : ℕ → List ℕ → List ℕ
+behind begin places = map (λ place. (place + (2 ^ 64 - begin)) % 2 ^ 64) places
+
+-- from a number on none is below the one before it, and the last is at most so much
+abbrev pub rises : ℕ → List ℕ → ℕ → Bool
+rises start [] most = nat_le start most
+rises start (end ∷ ends) most = nat_le start end && rises end ends most
+
+-- a text, if it is valid
+abbrev pub value_from : List ℕ → Bool → Option (List ℕ)
+value_from text is_valid = if is_valid then Some text else None

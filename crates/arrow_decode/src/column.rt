@@ -40,11 +40,11 @@ pub(crate) fn column_values(
     match layout {
         Layout::Plain => match second {
             None => fixed_values(alloc, kind, count, valid, first),
-            Some(bytes) => text_values(alloc, kind, false, count, &valid, first, bytes),
+            Some(bytes) => text_values(alloc, kind, false, count, valid, first, bytes),
         },
         Layout::Wide => match second {
             None => Ok(None),
-            Some(bytes) => text_values(alloc, kind, true, count, &valid, first, bytes),
+            Some(bytes) => text_values(alloc, kind, true, count, valid, first, bytes),
         },
         Layout::Index { width, signed, .. } => match second {
             None => index_values(alloc, width, signed, dictionary, count, &valid, first),

@@ -1,14 +1,14 @@
 // Columns of texts under a dictionary.
-ghost use Rattle.std.specs.Prelude.{◌≡◌, ◌+◌, ◌*◌, ◌<◌, ◌≤◌, ◌^◌, length, IfOk, IsTrue, Some, None, true, false, slice_index_or, option_copied};
+ghost use Rattle.std.specs.Prelude.{◌≡◌, ◌+◌, ◌*◌, ◌<◌, ◌≤◌, ◌^◌, length, map, IfOk, IsTrue, Some, true, false, slice_index_or};
 ghost use Rattle.std.specs.Option.{option_map};
-ghost use Rattle.sub_types.specs.Optional.{optional};
+ghost use Rattle.sub_types.specs.OptionSteps.{all_of};
 ghost use Rattle.arrow_meta.specs.Known.{is_index_size};
 ghost use Rattle.arrow_meta.specs.Natural.{natural};
-ghost use Rattle.arrow_meta.specs.Values.{encoded_in, named_value};
+ghost use Rattle.arrow_meta.specs.Values.{encoded_in};
 ghost use Rattle.arrow_decode.specs.Indices as spec;
 
 use byteorder::{ByteOrder, LittleEndian};
-use col_text::{TextBuilder, TextCol};
+use col_text::TextCol;
 use std::alloc::Global;
 use sub_types::{Bits, NoMemory};
 
@@ -31,41 +31,65 @@ pub(crate) fn encoded(
     if size as usize * count > buffer.len() {
         return Ok(None);
     }
-    let mut builder = TextBuilder::new(alloc);
-    for i in 0..count {
-        let Some(value) = named(size, signed, valid, dictionary, buffer, i) else {
-            return Ok(None);
-        };
-        builder.push(value)?;
-    }
-    Ok(Some(builder.finish()))
+    let Some(at) = places(alloc, size, signed, count, valid, dictionary.len(), buffer)? else {
+        return Ok(None);
+    };
+    Ok(Some(dictionary.view().gather_or_null(alloc, &at)?))
 }
 
-// The value that the index at a place names: null where it isn't valid, or none where it names none.
-fn named<'a>(
+// The place that each index names among so many values, and for a null the one behind them; or none where a valid
+// one names none.
+fn places(
+    alloc: Global,
+    size: u8,
+    signed: bool,
+    count: usize,
+    valid: &Bits,
+    values: usize,
+    buffer: &[u8],
+) -> Result<Option<Vec<u64>>, NoMemory>
+    requires size { IsTrue (is_index_size size) }
+    requires long { length valid.now ≡ count }
+    requires few { count < 2 ^ 31 }
+    requires within { size * count ≤ length buffer.now }
+    ensures { IfOk result (λ found. option_map (λ at. at.items) found
+        ≡ all_of (map (spec.place_among values) (spec.optional_indices size signed count valid.now buffer.now))) }
+{
+    let mut at = Vec::with_capacity(alloc, count)?;
+    for i in 0..count {
+        let Some(place) = place_at(size, signed, valid, values as u64, buffer, i) else {
+            return Ok(None);
+        };
+        at.push(place)?;
+    }
+    Ok(Some(at))
+}
+
+// The place that the index at a place names.
+fn place_at(
     size: u8,
     signed: bool,
     valid: &Bits,
-    dictionary: &'a TextCol,
+    values: u64,
     buffer: &[u8],
     i: usize,
-) -> Option<Option<&'a [u8]>>
+) -> Option<u64>
     requires size { IsTrue (is_index_size size) }
     requires valid { i < length valid.now }
     requires few { i < 2 ^ 31 }
     requires within { size * (i + 1) ≤ length buffer.now }
-    ensures null { slice_index_or valid.now i false ≡ false → option_map option_copied result ≡ Some None }
+    ensures null { slice_index_or valid.now i false ≡ false → result ≡ Some values }
     ensures valid { slice_index_or valid.now i false ≡ true
-        → option_map option_copied result ≡ named_value dictionary.now (Some (spec.index_number size signed buffer.now i)) }
+        → result ≡ spec.place_among values (Some (spec.index_number size signed buffer.now i)) }
 {
     if !valid.get(i) {
-        return Some(None);
+        return Some(values);
     }
     let index = index_at(size, signed, buffer, i)?;
-    if index >= dictionary.len() as u64 {
+    if index >= values {
         return None;
     }
-    Some(dictionary.value_at(index as usize))
+    Some(index)
 }
 
 // The index at a place, or none where it is below 0.

@@ -1,12 +1,14 @@
 // Columns of texts and binaries.
-ghost use Rattle.std.specs.Prelude.{◌≡◌, ◌+◌, ◌*◌, ◌<◌, ◌≤◌, ◌^◌, length, vec_len, IfOk, IfSome, IsTrue, None, option_copied, slice_index_or};
-ghost use Rattle.std.specs.List.{list_all, slice_range};
-ghost use Rattle.std.specs.Option.{option_map};
-ghost use Rattle.std.specs.Int.{w32, w64};
+ghost use Rattle.std.specs.Prelude.{◌≡◌, ◌↔◌, ◌+◌, ◌-◌, ◌*◌, ◌/◌, ◌%◌, ◌<◌, ◌≤◌, ◌^◌, length, vec_len, map, min, [], IfOk, IsTrue, option_copied};
+ghost use Rattle.std.specs.List.{concat, list_all, slice_range};
+ghost use Rattle.std.specs.Simd.{first_chunks};
+ghost use Rattle.byteorder.specs.Endian.{little_number};
 ghost use Rattle.sub_types.specs.Optional.{optional};
-ghost use Rattle.arrow_meta.specs.Natural.{natural};
+ghost use Rattle.sub_types.specs.Slots.{slots};
+ghost use Rattle.col_text.specs.Text.{pieces, Rise, NullsAreEmpty};
 ghost use Rattle.arrow_meta.specs.Values as spec;
-ghost use Rattle.arrow_decode.specs.Offsets.{offsets_of, offset_number, offset_width};
+ghost use Rattle.arrow_decode.specs.Offsets.{offset_width, greatest_offset, front_offset, raw_offsets, behind, rises, value_from};
+ghost use Rattle.arrow_decode.specs.Characters.{BeginAtCharacters};
 
 use byteorder::{ByteOrder, LittleEndian};
 use col_text::{TextBuilder, TextCol};
@@ -19,13 +21,13 @@ pub(crate) fn texts(
     alloc: Global,
     wide: bool,
     count: usize,
-    valid: &Bits,
+    valid: Bits,
     offsets: &[u8],
     bytes: &[u8],
 ) -> Result<Option<TextCol>, NoMemory>
-    requires long { length valid.now ≡ count }
+    requires long { length valid ≡ count }
     requires few { count < 2 ^ 31 }
-    ensures { IfOk result (λ found. found ≡ spec.texts_in wide count valid.now offsets.now bytes.now) }
+    ensures { IfOk result (λ found. found ≡ spec.texts_in wide count valid offsets.now bytes.now) }
 {
     let Some(column) = binaries(alloc, wide, count, valid, offsets, bytes)? else {
         return Ok(None);
@@ -41,48 +43,31 @@ pub(crate) fn binaries(
     alloc: Global,
     wide: bool,
     count: usize,
-    valid: &Bits,
+    valid: Bits,
     offsets: &[u8],
     bytes: &[u8],
 ) -> Result<Option<TextCol>, NoMemory>
-    requires long { length valid.now ≡ count }
+    requires long { length valid ≡ count }
     requires few { count < 2 ^ 31 }
-    ensures { IfOk result (λ found. found ≡ spec.binaries_in wide count valid.now offsets.now bytes.now) }
-{
-    let Some(offsets) = read_offsets(alloc, wide, count, offsets)? else {
-        return Ok(None);
-    };
-    if !are_offsets(count, &offsets, bytes) {
-        return Ok(None);
-    }
-    Ok(Some(pieces(alloc, count, valid, &offsets, bytes)?))
-}
-
-// Where `count` values begin and end, or none where the buffer has too few offsets or one is below 0.
-fn read_offsets(
-    alloc: Global,
-    wide: bool,
-    count: usize,
-    buffer: &[u8],
-) -> Result<Option<Vec<usize>>, NoMemory>
-    requires { count < 2 ^ 31 }
-    ensures offsets { IfOk result (λ found. option_map (λ offsets. offsets.items) found ≡ offsets_of wide count buffer.now) }
-    ensures long { IfOk result (λ found. IfSome found (λ offsets. vec_len offsets ≡ count + 1)) }
+    ensures { IfOk result (λ found. found ≡ spec.binaries_in wide count valid offsets.now bytes.now) }
 {
     if count == 0 {
-        return Ok(Some(vec![in alloc; 0]?));
+        return Ok(Some(TextCol::from_parts(Vec::new(alloc), Vec::new(alloc), valid)));
     }
-    if offset_size(wide) * (count + 1) > buffer.len() {
+    if offset_size(wide) * (count + 1) > offsets.len() {
         return Ok(None);
     }
-    let mut offsets = Vec::with_capacity(alloc, count + 1)?;
-    for i in 0..count + 1 {
-        let Some(offset) = offset_at(wide, buffer, i) else {
-            return Ok(None);
-        };
-        offsets.push(offset)?;
+    let begin = first_offset(wide, offsets);
+    let most = last_place(wide, bytes);
+    if begin > most {
+        return Ok(None);
     }
-    Ok(Some(offsets))
+    let ends = read_ends(alloc, wide, count, begin, offsets)?;
+    if !rise(&ends, most - begin) {
+        return Ok(None);
+    }
+    let end = begin + ends[count - 1];
+    Ok(Some(column_of(alloc, ends, part(bytes, begin, end), valid)?))
 }
 
 // How many bytes an offset has.
@@ -93,76 +78,152 @@ fn offset_size(wide: bool) -> usize
     if wide { 8 } else { 4 }
 }
 
-// The offset at a place, or none where it is below 0.
-fn offset_at(wide: bool, buffer: &[u8], i: usize) -> Option<usize>
-    requires few { i < 2 ^ 32 }
-    requires within { offset_width wide * (i + 1) ≤ length buffer.now }
-    ensures { result ≡ natural (offset_number wide buffer.now i) }
+// The last place in the bytes that an offset can name.
+fn last_place(wide: bool, bytes: &[u8]) -> usize
+    ensures { result ≡ min (length bytes.now) (greatest_offset wide) }
 {
-    let offset = if wide {
-        let (_, rest) = buffer.split_at(8 * i);
-        LittleEndian::read_i64(rest)
+    let greatest = if wide {
+        i64::MAX as usize
     } else {
-        let (_, rest) = buffer.split_at(4 * i);
-        i64::from(LittleEndian::read_i32(rest))
+        i32::MAX as usize
     };
-    if offset < 0 {
-        return None;
-    }
-    Some(offset as usize)
+    bytes.len().min(greatest)
 }
 
-// No offset is above the next, and the last is within the bytes.
-fn are_offsets(count: usize, offsets: &[usize], bytes: &[u8]) -> bool
-    requires { length offsets.now ≡ count + 1 }
-    ensures { result ≡ spec.are_offsets count offsets.now bytes.now }
+// The first offset. One below 0 is read as one above all that can be.
+fn first_offset(wide: bool, buffer: &[u8]) -> usize
+    requires { offset_width wide ≤ length buffer.now }
+    ensures { result ≡ front_offset wide buffer.now }
 {
-    for i in 0..count {
-        if offsets[i] > offsets[i + 1] {
+    if wide {
+        LittleEndian::read_u64(buffer) as usize
+    } else {
+        LittleEndian::read_u32(buffer) as usize
+    }
+}
+
+// Where `count` values end whose bytes begin at a place: the offsets behind the first, less that.
+fn read_ends(
+    alloc: Global,
+    wide: bool,
+    count: usize,
+    begin: usize,
+    buffer: &[u8],
+) -> Result<Vec<usize>, NoMemory>
+    requires few { count < 2 ^ 31 }
+    requires long { offset_width wide * (count + 1) ≤ length buffer.now }
+    ensures { IfOk result (λ ends. ends.items ≡ behind begin (raw_offsets wide buffer.now 1 count)) }
+{
+    let size = offset_size(wide);
+    let (_, others) = buffer.split_at(size);
+    let (others, _) = others.split_at(size * count);
+    if wide {
+        read_wide_ends(alloc, begin, others)
+    } else {
+        read_short_ends(alloc, begin, others)
+    }
+}
+
+fn read_wide_ends(alloc: Global, begin: usize, buffer: &[u8]) -> Result<Vec<usize>, NoMemory>
+    ensures { IfOk result (λ ends. ends.items ≡ map (λ chunk. (little_number 8 chunk + (2 ^ 64 - begin)) % 2 ^ 64)
+        (first_chunks 8 (length buffer.now / 8) buffer.now)) }
+{
+    let (chunks, _) = buffer.as_chunks::<8>();
+    let ends = chunks
+        .iter()
+        .map(|chunk| (LittleEndian::read_u64(chunk) as usize).wrapping_sub(begin))
+        .collect(alloc)?;
+    Ok(ends)
+}
+
+fn read_short_ends(alloc: Global, begin: usize, buffer: &[u8]) -> Result<Vec<usize>, NoMemory>
+    ensures { IfOk result (λ ends. ends.items ≡ map (λ chunk. (little_number 4 chunk + (2 ^ 64 - begin)) % 2 ^ 64)
+        (first_chunks 4 (length buffer.now / 4) buffer.now)) }
+{
+    let (chunks, _) = buffer.as_chunks::<4>();
+    let ends = chunks
+        .iter()
+        .map(|chunk| (LittleEndian::read_u32(chunk) as usize).wrapping_sub(begin))
+        .collect(alloc)?;
+    Ok(ends)
+}
+
+// No end is below the one before it, and the last is at most `most`.
+fn rise(ends: &[usize], most: usize) -> bool
+    ensures { result ≡ rises 0 ends.now most }
+{
+    let mut falls = false;
+    let mut last = 0;
+    for end in ends {
+        falls = falls | (*end < last);
+        last = *end;
+    }
+    !falls && last <= most
+}
+
+// The bytes between these ends, null where they aren't valid.
+fn column_of(
+    alloc: Global,
+    ends: Vec<usize>,
+    bytes: &[u8],
+    valid: Bits,
+) -> Result<TextCol, NoMemory>
+    requires rising { Rise 0 ends.items (length bytes.now) }
+    requires counted { vec_len ends ≡ length valid }
+    ensures { IfOk result (λ column. column ≡ optional (pieces 0 ends.items bytes.now) valid) }
+{
+    if !nulls_are_empty(&ends, &valid) {
+        return without_nulls(alloc, &ends, bytes, &valid);
+    }
+    let bytes = bytes.to_vec(alloc)?;
+    Ok(TextCol::from_parts(ends, bytes, valid))
+}
+
+// No null has bytes.
+fn nulls_are_empty(ends: &[usize], valid: &Bits) -> bool
+    requires { length ends.now ≡ length valid.now }
+    ensures { IsTrue result → NullsAreEmpty 0 ends.now valid.now }
+{
+    let mut start = 0;
+    for i in 0..ends.len() {
+        if !valid.get(i) && ends[i] != start {
             return false;
         }
+        start = ends[i];
     }
-    offsets[count] <= bytes.len()
+    true
 }
 
-// The bytes between each two offsets, null where they aren't valid.
-fn pieces(
+// The same where a null has bytes, which a column doesn't keep.
+fn without_nulls(
     alloc: Global,
-    count: usize,
-    valid: &Bits,
-    offsets: &[usize],
+    ends: &[usize],
     bytes: &[u8],
+    valid: &Bits,
 ) -> Result<TextCol, NoMemory>
-    requires long { length valid.now ≡ count }
-    requires ends { length offsets.now ≡ count + 1 }
-    requires rising { IsTrue (spec.are_offsets count offsets.now bytes.now) }
-    ensures { IfOk result (λ column. column ≡ optional (spec.pieces_of count offsets.now bytes.now) valid.now) }
+    requires rising { Rise 0 ends.now (length bytes.now) }
+    requires counted { length ends.now ≡ length valid.now }
+    ensures { IfOk result (λ column. column ≡ optional (pieces 0 ends.now bytes.now) valid.now) }
 {
     let mut builder = TextBuilder::new(alloc);
-    for i in 0..count {
-        builder.push(piece(count, valid, offsets, bytes, i))?;
+    let mut start = 0;
+    for i in 0..ends.len() {
+        builder.push(value_between(bytes, start, ends[i], valid.get(i)))?;
+        start = ends[i];
     }
     Ok(builder.finish())
 }
 
-// The bytes between two offsets, if they are valid.
-fn piece<'a>(
-    count: usize,
-    valid: &Bits,
-    offsets: &[usize],
-    bytes: &'a [u8],
-    i: usize,
-) -> Option<&'a [u8]>
-    requires long { length valid.now ≡ count }
-    requires ends { length offsets.now ≡ count + 1 }
-    requires rising { IsTrue (spec.are_offsets count offsets.now bytes.now) }
-    requires within { i < count }
-    ensures { option_copied result ≡ slice_index_or (optional (spec.pieces_of count offsets.now bytes.now) valid.now) i None }
+// The bytes between two places, if they are valid.
+fn value_between(bytes: &[u8], from: usize, to: usize, is_valid: bool) -> Option<&[u8]>
+    requires rising { from ≤ to }
+    requires within { to ≤ length bytes.now }
+    ensures { option_copied result ≡ value_from (slice_range bytes.now from to) is_valid }
 {
-    if !valid.get(i) {
+    if !is_valid {
         return None;
     }
-    Some(part(bytes, offsets[i], offsets[i + 1]))
+    Some(part(bytes, from, to))
 }
 
 fn part(bytes: &[u8], from: usize, to: usize) -> &[u8]
@@ -173,23 +234,24 @@ fn part(bytes: &[u8], from: usize, to: usize) -> &[u8]
     &bytes[from..to]
 }
 
-// Each value is UTF-8.
+// Each value is UTF-8: they are joined, and each begins where a character does.
 fn are_texts(column: &TextCol) -> bool
     ensures { result ≡ list_all spec.is_text column.now }
 {
+    let Ok(text) = simdutf8::basic::from_utf8(column.bytes()) else {
+        return false;
+    };
+    begin_at_characters(column, text)
+}
+
+fn begin_at_characters(column: &TextCol, text: &str) -> bool
+    requires { text.now ≡ concat (slots [] column.now) }
+    ensures { IsTrue result ↔ BeginAtCharacters column.now }
+{
     for i in 0..column.len() {
-        if !is_text(column.value_at(i)) {
+        if !text.is_char_boundary(column.offset(i)) {
             return false;
         }
     }
     true
-}
-
-fn is_text(value: Option<&[u8]>) -> bool
-    ensures { result ≡ spec.is_text (option_map (λ bytes. bytes.now) value.entry) }
-{
-    match value {
-        None => true,
-        Some(bytes) => simdutf8::is_utf8(bytes),
-    }
 }

@@ -48,5 +48,5 @@ fn text_buffers(
     let Some(valid) = validity(alloc, count, buffers.validity)? else {
         return Ok(None);
     };
-    texts(alloc, wide, count, &valid, buffers.first, bytes)
+    texts(alloc, wide, count, valid, buffers.first, bytes)
 }

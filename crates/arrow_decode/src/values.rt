@@ -53,14 +53,14 @@ pub(crate) fn text_values(
     kind: Kind,
     wide: bool,
     count: usize,
-    valid: &Bits,
+    valid: Bits,
     offsets: &[u8],
     bytes: &[u8],
 ) -> Result<Option<ColumnData>, NoMemory>
-    requires long { length valid.now ≡ count }
+    requires long { length valid ≡ count }
     requires few { count < 2 ^ 31 }
     ensures values { (dictionary : Option (List (Option (List ℕ)))) → IfOk result (λ found. option_map values_of found
-        ≡ values_in kind (if wide then layouts.Wide else layouts.Plain) dictionary count valid.now (offsets.now ∷ bytes.now ∷ [])) }
+        ≡ values_in kind (if wide then layouts.Wide else layouts.Plain) dictionary count valid (offsets.now ∷ bytes.now ∷ [])) }
     ensures storage { IfOk result (λ found. IfSome found (λ column. storage_of column ≡ kind_storage kind)) }
 {
     match kind {

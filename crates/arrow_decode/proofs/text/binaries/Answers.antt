@@ -1,25 +1,72 @@
-use Rattle.std.proofs.Common.{◌≡◌, ◌∙◌, Some, None, sym, ap, true, false}
-use Rattle.std.specs.Option.{option_map}
-use Rattle.arrow_meta.specs.Values.{are_offsets, pieces_of}
+use Rattle.std.proofs.Common.{rules, tests, ◌≡◌, ◌∙◌, ℕ, ◌+◌, ◌-◌, ◌*◌, ◌≤◌, ◌<◌, [], Some, true, false, get_or, length, ap, sym, arith}
+use Rattle.std.specs.List.{slice_range}
+use Rattle.std.proofs.Math.Facts.{Fits-lt-pow}
 use Rattle.sub_types.specs.Optional.{optional}
-use Rattle.arrow_decode.specs.Offsets.{offsets_of}
-use Rattle.arrow_decode.proofs.TextLaws.{binaries_none, binaries_bad, binaries_good}
+use Rattle.col_text.specs.Text.{pieces}
+use Rattle.arrow_meta.specs.Values.{binaries_in}
+use Rattle.arrow_decode.specs.Offsets.{rises}
+use Rattle.arrow_decode.proofs.TextLaws.{IsReadAs, is_read_as, binaries_in-none, binaries_in-short, binaries_in-above, binaries_in-falls, binaries_in-good, ends_within, most-fits, length-ends, Rise-size}
 use Rattle.arrow_decode.proofs.text.binaries.Goals as goal
 
-pub returns-in_default : goal.returns-in_default
-returns-in_default c =
-    let none : offsets_of c.args.wide c.args.count c.args.offsets.now ≡ None = sym c.in_ok-offsets.ensures.offsets ∙ ap (option_map (λ v. v.items)) c.in_default.is in
-    sym (binaries_none c.args.wide c.args.count c.args.valid.now c.args.offsets.now c.args.bytes.now none)
+pub returns-then-count-eq0 : goal.returns-then-count-eq0
+returns-then-count-eq0 c =
+    let none : c.args.count ≡ 0 = search (rules, tests) in
+    let empty = c.from_parts.ensures ∙ ap (λ ends. optional (pieces 0 ends c.new-then-count-eq0.result.items) c.args.valid) c.new.ensures.items in
+    ap (λ column. Some column) empty ∙ sym (ap (λ n. binaries_in c.args.wide n c.args.valid c.args.offsets.now c.args.bytes.now) none ∙ binaries_in-none c.args.wide c.args.valid c.args.offsets.now c.args.bytes.now)
 
-pub returns-then-not-are_offsets : goal.returns-then-not-are_offsets
-returns-then-not-are_offsets c =
-    let found : offsets_of c.args.wide c.args.count c.args.offsets.now ≡ Some c.in-Some.offsets.items = sym c.in_ok-offsets.ensures.offsets ∙ ap (option_map (λ v. v.items)) c.in-Some.is in
-    let bad : are_offsets c.args.count c.in-Some.offsets.items c.args.bytes.now ≡ false = ap (λ places. are_offsets c.args.count places c.args.bytes.now) (sym c.deref.ensures.value) ∙ sym c.if-not-are_offsets.ensures in
-    sym (binaries_bad c.args.wide c.args.count c.args.valid.now c.args.offsets.now c.args.bytes.now c.in-Some.offsets.items found bad)
+pub returns-then-offset_size-count : goal.returns-then-offset_size-count
+returns-then-offset_size-count c =
+    let size = ap (λ (n : ℕ). n * (c.args.count + 1)) c.offset_size.ensures.size in
+    sym (binaries_in-short c.args.wide c.args.count c.args.valid c.args.offsets.now c.args.bytes.now (omega arith) (omega (arith, size)))
+
+pub returns-then-begin-most : goal.returns-then-begin-most
+returns-then-begin-most c =
+    let is = is_read_as c.args.wide c.args.count c.offset_size.result c.first_offset-begin.result c.last_place-most.result c.args.offsets.now c.args.bytes.now (omega arith) c.offset_size.ensures.size (omega arith) (λ i. Fits-lt-pow (c.type_inv.offsets i)) c.first_offset-begin.ensures c.last_place-most.ensures in
+    sym (binaries_in-above c.args.wide c.args.count c.first_offset-begin.result c.last_place-most.result c.args.valid c.args.offsets.now c.args.bytes.now is (omega arith))
+
+pub returns-then-not-rise : goal.returns-then-not-rise
+returns-then-not-rise c =
+    let is = is_read_as c.args.wide c.args.count c.offset_size.result c.first_offset-begin.result c.last_place-most.result c.args.offsets.now c.args.bytes.now (omega arith) c.offset_size.ensures.size (omega arith) (λ i. Fits-lt-pow (c.type_inv.offsets i)) c.first_offset-begin.ensures c.last_place-most.ensures in
+    let falls : rises 0 c.in_ok-ends.ends.items (c.last_place-most.result - c.first_offset-begin.result) ≡ false = ap (λ es. rises 0 es (c.last_place-most.result - c.first_offset-begin.result)) (sym c.deref.ensures.value) ∙ sym c.if-not-rise.ensures in
+    sym (binaries_in-falls c.args.wide c.args.count c.first_offset-begin.result c.last_place-most.result c.args.valid c.args.offsets.now c.args.bytes.now is (omega arith) c.in_ok-ends.ends.items c.in_ok-ends.ensures falls)
+
+pub index-requires : goal.index-requires
+index-requires c =
+    let long = ap length c.in_ok-ends.ensures ∙ length-ends c.args.wide c.args.offsets.now c.args.count c.first_offset-begin.result in
+    omega (arith, long, c.in_ok-ends.ends.ok)
+
+pub overflow_add-end : goal.overflow_add-end
+overflow_add-end c =
+    let is = is_read_as c.args.wide c.args.count c.offset_size.result c.first_offset-begin.result c.last_place-most.result c.args.offsets.now c.args.bytes.now (omega arith) c.offset_size.ensures.size (omega arith) (λ i. Fits-lt-pow (c.type_inv.offsets i)) c.first_offset-begin.ensures c.last_place-most.ensures in
+    let rising : rises 0 c.in_ok-ends.ends.items (c.last_place-most.result - c.first_offset-begin.result) ≡ true = ap (λ es. rises 0 es (c.last_place-most.result - c.first_offset-begin.result)) (sym c.deref.ensures.value) ∙ sym c.if-not-rise.ensures in
+    let within = ends_within c.args.wide c.args.count c.first_offset-begin.result c.last_place-most.result c.index.result.now c.args.offsets.now c.args.bytes.now is (omega arith) c.in_ok-ends.ends.items c.in_ok-ends.ensures rising c.index.ensures in
+    let fits = most-fits c.args.wide c.args.count c.first_offset-begin.result c.last_place-most.result c.args.offsets.now c.args.bytes.now is in
+    omega (arith, within.0, fits.0)
+
+pub part-requires-clause-within : goal.part-requires-clause-within
+part-requires-clause-within c =
+    let is = is_read_as c.args.wide c.args.count c.offset_size.result c.first_offset-begin.result c.last_place-most.result c.args.offsets.now c.args.bytes.now (omega arith) c.offset_size.ensures.size (omega arith) (λ i. Fits-lt-pow (c.type_inv.offsets i)) c.first_offset-begin.ensures c.last_place-most.ensures in
+    let rising : rises 0 c.in_ok-ends.ends.items (c.last_place-most.result - c.first_offset-begin.result) ≡ true = ap (λ es. rises 0 es (c.last_place-most.result - c.first_offset-begin.result)) (sym c.deref.ensures.value) ∙ sym c.if-not-rise.ensures in
+    let within = ends_within c.args.wide c.args.count c.first_offset-begin.result c.last_place-most.result c.index.result.now c.args.offsets.now c.args.bytes.now is (omega arith) c.in_ok-ends.ends.items c.in_ok-ends.ensures rising c.index.ensures in
+    let fits = most-fits c.args.wide c.args.count c.first_offset-begin.result c.last_place-most.result c.args.offsets.now c.args.bytes.now is in
+    omega (arith, within.0, fits.1)
+
+pub column_of-requires-clause-rising : goal.column_of-requires-clause-rising
+column_of-requires-clause-rising c =
+    let is = is_read_as c.args.wide c.args.count c.offset_size.result c.first_offset-begin.result c.last_place-most.result c.args.offsets.now c.args.bytes.now (omega arith) c.offset_size.ensures.size (omega arith) (λ i. Fits-lt-pow (c.type_inv.offsets i)) c.first_offset-begin.ensures c.last_place-most.ensures in
+    let rising : rises 0 c.in_ok-ends.ends.items (c.last_place-most.result - c.first_offset-begin.result) ≡ true = ap (λ es. rises 0 es (c.last_place-most.result - c.first_offset-begin.result)) (sym c.deref.ensures.value) ∙ sym c.if-not-rise.ensures in
+    let within = ends_within c.args.wide c.args.count c.first_offset-begin.result c.last_place-most.result c.index.result.now c.args.offsets.now c.args.bytes.now is (omega arith) c.in_ok-ends.ends.items c.in_ok-ends.ensures rising c.index.ensures in
+    let fits = most-fits c.args.wide c.args.count c.first_offset-begin.result c.last_place-most.result c.args.offsets.now c.args.bytes.now is in
+    Rise-size c.in_ok-ends.ends.items c.index.result.now c.first_offset-begin.result (length c.part.result.now) c.args.bytes.now within.1 (omega (arith, within.0, fits.1)) (ap length c.part.ensures)
+
+pub column_of-requires-clause-counted : goal.column_of-requires-clause-counted
+column_of-requires-clause-counted c =
+    let long = ap length c.in_ok-ends.ensures ∙ length-ends c.args.wide c.args.offsets.now c.args.count c.first_offset-begin.result in
+    omega (arith, long, c.in_ok-ends.ends.ok, c.requires.long)
 
 pub returns : goal.returns
 returns c =
-    let found : offsets_of c.args.wide c.args.count c.args.offsets.now ≡ Some c.in-Some.offsets.items = sym c.in_ok-offsets.ensures.offsets ∙ ap (option_map (λ v. v.items)) c.in-Some.is in
-    let good : are_offsets c.args.count c.in-Some.offsets.items c.args.bytes.now ≡ true = ap (λ places. are_offsets c.args.count places c.args.bytes.now) (sym c.deref.ensures.value) ∙ sym c.if-not-are_offsets.ensures in
-    let made = c.in_ok-pieces.ensures ∙ ap (λ places. optional (pieces_of c.args.count places c.args.bytes.now) c.args.valid.now) c.deref-2.ensures.value in
-    ap (λ column. Some column) made ∙ sym (binaries_good c.args.wide c.args.count c.args.valid.now c.args.offsets.now c.args.bytes.now c.in-Some.offsets.items found good)
+    let is = is_read_as c.args.wide c.args.count c.offset_size.result c.first_offset-begin.result c.last_place-most.result c.args.offsets.now c.args.bytes.now (omega arith) c.offset_size.ensures.size (omega arith) (λ i. Fits-lt-pow (c.type_inv.offsets i)) c.first_offset-begin.ensures c.last_place-most.ensures in
+    let rising : rises 0 c.in_ok-ends.ends.items (c.last_place-most.result - c.first_offset-begin.result) ≡ true = ap (λ es. rises 0 es (c.last_place-most.result - c.first_offset-begin.result)) (sym c.deref.ensures.value) ∙ sym c.if-not-rise.ensures in
+    ap (λ column. Some column) (c.in_ok-column_of.ensures ∙ ap (λ bytes. optional (pieces 0 c.in_ok-ends.ends.items bytes) c.args.valid) c.part.ensures)
+    ∙ binaries_in-good c.args.wide c.args.count c.first_offset-begin.result c.last_place-most.result c.index.result.now c.args.valid c.args.offsets.now c.args.bytes.now is (omega arith) c.in_ok-ends.ends.items c.in_ok-ends.ensures rising c.index.ensures
