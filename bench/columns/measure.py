@@ -140,9 +140,10 @@ def main():
         for _ in range(RUNS):
             best(ours, program)
             best(theirs, [plain])
-        print("work: nanoseconds here, in plain Rust, ratio, ratio to a plain copy of 8 KB")
+        print("work: nanoseconds here, in plain Rust, ratio, ratio to a copy of 8 KB here and in plain Rust")
         for name, number in theirs.items():
-            print(f"{name}: {ours[name]} {number} {ours[name] / number:.2f} {ours[name] / theirs['copy']:.2f}")
+            mine = ours[name]
+            print(f"{name}: {mine} {number} {mine / max(number, 1):.2f} {mine / ours['copy']:.2f} {mine / theirs['copy']:.2f}")
 
 
 main()

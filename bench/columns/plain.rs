@@ -41,8 +41,12 @@ fn texts(count: usize, offsets: &[u8], bytes: &[u8]) -> Option<(Vec<u32>, Vec<u8
     Some(column)
 }
 
+// The values at places, and their validity; where all are valid, no bit is looked at.
 fn gather(values: &[i64], valid: &[u8], at: &[u64]) -> (Vec<i64>, Vec<u8>) {
     let picked = at.iter().map(|i| values[*i as usize]).collect();
+    if valid.iter().all(|byte| *byte == 255) {
+        return (picked, vec![255; at.len().div_ceil(8)]);
+    }
     let mut bits = vec![0u8; at.len().div_ceil(8)];
     for (row, i) in at.iter().enumerate() {
         let bit = valid[*i as usize / 8] >> (*i % 8) & 1;
@@ -79,13 +83,19 @@ fn main() {
     offsets.extend_from_slice(&letters);
     let wide = numbers(&bytes(8 * ROWS));
     let valid = vec![255u8; ROWS / 8];
+    let some = vec![251u8; ROWS / 8];
     let at: Vec<u64> = (0..ROWS as u64).map(|i| i * 7919 % ROWS as u64).collect();
+    let (narrow, narrow_at) = (numbers(&body), (0..1024).map(|i| i * 611 % 1024).collect::<Vec<u64>>());
     for _ in 0..ROUNDS {
         timed("copy", TIMES, || black_box(&body).to_vec());
         timed("numbers", TIMES, || fixed(1024, black_box(&body)));
+        timed("no rows", TIMES, || fixed(0, black_box(&body)));
         timed("binaries", TIMES, || binaries(2048, black_box(&offsets[..8196]), &offsets[8196..]));
         timed("texts", TIMES, || texts(2048, black_box(&offsets[..8196]), &offsets[8196..]));
         timed("gather", 1, || gather(&wide, &valid, black_box(&at)));
+        timed("gather with nulls", 1, || gather(&wide, &some, black_box(&at)));
+        timed("gather a batch", TIMES, || gather(&narrow, &valid[..128], black_box(&narrow_at)));
+        timed("gather a batch with nulls", TIMES, || gather(&narrow, &some[..128], black_box(&narrow_at)));
         timed("build", 1, || build(black_box(ROWS)));
     }
 }

@@ -1,5 +1,5 @@
 // Buffers of a body, and the bits in them.
-ghost use Rattle.std.specs.Prelude.{◌≡◌, ◌+◌, ◌*◌, ◌<◌, ◌≤◌, true, length, replicate, option_copied, IfOk, IfSome};
+ghost use Rattle.std.specs.Prelude.{◌≡◌, ◌+◌, ◌*◌, ◌<◌, ◌≤◌, length, option_copied, IfOk, IfSome};
 ghost use Rattle.arrow_meta.specs.Batch.{buffer_in};
 ghost use Rattle.arrow_meta.specs.Values.{bits_in, validity_in};
 
@@ -45,19 +45,10 @@ pub(crate) fn validity(alloc: Global, count: usize, buffer: &[u8]) -> Result<Opt
     ensures validity { IfOk result (λ found. found ≡ validity_in count buffer.now) }
     ensures long { IfOk result (λ found. IfSome found (λ bits. length bits ≡ count)) }
 {
-    if buffer.len() == 0 {
-        return Ok(Some(all_valid(alloc, count)?));
+    if buffer.is_empty() {
+        return Ok(Some(Bits::ones(alloc, count)?));
     }
     bits(alloc, count, buffer)
-}
-
-fn all_valid(alloc: Global, count: usize) -> Result<Bits, NoMemory>
-    ensures bits { IfOk result (λ bits. bits ≡ replicate count true) }
-    ensures long { IfOk result (λ bits. length bits ≡ count) }
-{
-    let size = byte_count(count);
-    let bytes = vec![in alloc; 255; size]?;
-    Ok(Bits::from_packed(bytes, count))
 }
 
 // How many bytes so many bits need.
