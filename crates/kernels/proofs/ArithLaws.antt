@@ -1,5 +1,5 @@
 -- Arithmetic with bounded results: the definitions of the plan, and the forms that the code computes.
-use Rattle.std.proofs.Common.{◌≡◌, ◌∙◌, ℕ, zero, suc, ◌+◌, ◌-◌, ◌*◌, ◌^◌, ◌<◌, ◌≤◌, ℤ, pos, negsuc, neg_ℤ, ◌/◌, ◌+ℤ◌, ◌-ℤ◌, ◌*ℤ◌, List, [], ◌∷◌, Bool, true, false, ltb, leb, min, map, Option, Some, None, option_map, Result, Ok, Err, inl, inr, FitsSigned, refl, sym, ap, ap₂, arith, lit<}
+use Rattle.std.proofs.Common.{◌≡◌, ◌∙◌, ℕ, zero, suc, ◌+◌, ◌-◌, ◌*◌, ◌^◌, ◌<◌, ◌≤◌, ℤ, pos, negsuc, neg_ℤ, ◌/◌, ◌⊎◌, ◌<ℤ◌, ◌≤ℤ◌, ◌+ℤ◌, ◌-ℤ◌, ◌*ℤ◌, List, [], ◌∷◌, Bool, true, false, ltb, leb, min, map, Option, Some, None, option_map, Result, Ok, Err, inl, inr, FitsSigned, refl, sym, ap, ap₂, arith, lit<}
 use Rattle.std.specs.Prelude.{int_lt, int_div, int_rem, unsigned_abs, if◌then◌else◌, ◌&&◌}
 use Rattle.std.specs.Int.{Width, w8, w16, w32, w64, w128, int_wrap}
 use Rattle.std.proofs.lemmas.Int.{ints, fits_signed_from_abs, fits_signed_mul, rem_below}
@@ -10,15 +10,18 @@ use Rattle.sub_types.specs.declared.kind.Kind.{Kind}
 use Rattle.sub_types.specs.declared.fault.FaultKind.{FaultKind}
 use Rattle.sub_types.specs.declared.fault.FaultKind.TheVariants as faults
 use Rattle.sub_types.specs.declared.value.Value.{Value}
-use Rattle.sub_types.specs.Nullable.{int_value}
+use Rattle.sub_types.specs.declared.value.Value.TheVariants as values
+use Rattle.sub_types.specs.declared.kind.Kind.TheVariants as kinds
+use Rattle.sub_types.specs.Nullable.{int_value, dec_value}
 use Rattle.plan_typed.specs.declared.expr.Overflow.{Overflow}
 use Rattle.plan_typed.specs.declared.expr.Overflow.TheVariants as modes
 use Rattle.plan_denote.specs.Whole as whole
 use Rattle.plan_denote.specs.Calls.{binary}
+use Rattle.plan_denote.specs.Decimals.{MAX_DIGITS, rescaled, decimal_or}
 use Rattle.plan_denote.specs.Computed.{Computed}
 use Rattle.kernels.specs.declared.op.ArithOp.{ArithOp}
 use Rattle.kernels.specs.declared.op.ArithOp.TheVariants.{Add, Subtract, Multiply, Divide, Modulus}
-use Rattle.kernels.specs.Arith.{IsWholeKind, func_of, divides, exact, beyond, settled, computed, row, some_of}
+use Rattle.kernels.specs.Arith.{IsWholeKind, IsDecimalKind, func_of, divides, exact, beyond, settled, computed, row, some_of}
 use Rattle.kernels.proofs.UntilLaws.{result_map}
 
 -- what lies between two numbers of a type is one
@@ -148,3 +151,68 @@ module _ (kind : Kind) (w : Width) (least greatest : ℤ) (is : IsWholeKind kind
   row-whole Multiply mode None None = refl
   row-whole Divide mode None None = refl
   row-whole Modulus mode None None = refl
+
+-- ---- decimals of one scale
+
+abbrev pub decimal_value : Result (Option ℤ) FaultKind → Computed
+decimal_value = result_map dec_value
+
+same_scale : (scale : ℕ) (n : ℤ) → rescaled scale scale n ≡ n
+same_scale scale n = let none : scale - scale ≡ 0 = omega arith in rw none (times_one n)
+  where
+    times_one : (n : ℤ) → n *ℤ pos 1 ≡ n
+    times_one n = omega (arith, ints)
+
+-- beyond both ends a decimal is a fault, and between them it stands
+settled-decimal : (mode : Overflow) (least greatest n : ℤ) (inside : Bool) → ((int_lt n least ≡ false) × (int_lt greatest n ≡ false) × (inside ≡ true)) ⊎ (((int_lt n least ≡ true) ⊎ (int_lt greatest n ≡ true)) × (inside ≡ false)) → decimal_value (some_of (settled mode w128 least greatest n)) ≡ (if inside then Ok (values.Dec n) else Err faults.Overflow)
+settled-decimal mode least greatest n inside (inl h) = rw (h.0, h.1, h.2) refl
+settled-decimal mode least greatest n inside (inr (inl low, out)) = rw (low, out) (ap (λ r. decimal_value (some_of r)) (wide-beyond mode least n))
+settled-decimal mode least greatest n inside (inr (inr high, out)) = rw out (go (int_lt n least) refl)
+  where
+    go : (b : Bool) → int_lt n least ≡ b → decimal_value (some_of (settled mode w128 least greatest n)) ≡ Err faults.Overflow
+    go true e = rw e (ap (λ r. decimal_value (some_of r)) (wide-beyond mode least n))
+    go false e = rw (e, high) (ap (λ r. decimal_value (some_of r)) (wide-beyond mode greatest n))
+
+digits-cases : (most : ℕ) → 0 < most → (n : ℤ) → ((int_lt n (neg_ℤ (pos (most - 1))) ≡ false) × (int_lt (pos (most - 1)) n ≡ false) × (ltb (unsigned_abs n) most ≡ true)) ⊎ (((int_lt n (neg_ℤ (pos (most - 1))) ≡ true) ⊎ (int_lt (pos (most - 1)) n ≡ true)) × (ltb (unsigned_abs n) most ≡ false))
+digits-cases most some n = elim (cases_lt (unsigned_abs n) most) [
+  | inl within ↦ inl (lt_false n (neg_ℤ (pos (most - 1))) (omega (arith, ints)), lt_false (pos (most - 1)) n (omega (arith, ints)), lt-ltb (unsigned_abs n) most within)
+  | inr far ↦ inr (ends n far, le-ltb (unsigned_abs n) most far)
+]
+  where
+    lt_false : (a b : ℤ) → b ≤ℤ a → int_lt a b ≡ false
+    lt_false (pos a) (pos b) le = le-ltb a b (omega (arith, ints))
+    lt_false (pos a) (negsuc b) le = refl
+    lt_false (negsuc a) (pos b) le = absurd (omega (arith, ints))
+    lt_false (negsuc a) (negsuc b) le = le-ltb b a (omega (arith, ints))
+
+    lt_true : (a b : ℤ) → a <ℤ b → int_lt a b ≡ true
+    lt_true (pos a) (pos b) lt = lt-ltb a b (omega (arith, ints))
+    lt_true (pos a) (negsuc b) lt = absurd (omega (arith, ints))
+    lt_true (negsuc a) (pos b) lt = refl
+    lt_true (negsuc a) (negsuc b) lt = lt-ltb b a (omega (arith, ints))
+
+    ends : (n : ℤ) → most ≤ unsigned_abs n → (int_lt n (neg_ℤ (pos (most - 1))) ≡ true) ⊎ (int_lt (pos (most - 1)) n ≡ true)
+    ends (pos n) far = inr (lt_true (pos (most - 1)) (pos n) (omega (arith, ints)))
+    ends (negsuc n) far = inl (lt_true (negsuc n) (neg_ℤ (pos (most - 1))) (omega (arith, ints)))
+
+module _ (precision scale : ℕ) (w : Width) (least greatest : ℤ) (is : IsDecimalKind precision w least greatest) where
+  settled-digits : (mode : Overflow) (n : ℤ) → decimal_value (some_of (settled mode w least greatest n)) ≡ decimal_or faults.Overflow (kinds.Decimal precision scale) n
+  settled-digits mode n =
+      let most = 10 ^ min precision MAX_DIGITS in
+      rw (is.wide, is.is_least, is.is_greatest) (settled-decimal mode (neg_ℤ (pos (most - 1))) (pos (most - 1)) n (ltb (unsigned_abs n) most) (digits-cases most (one-le-pow (min precision MAX_DIGITS) 10 (lit< tt)) n))
+
+  pub row-decimal : (op : ArithOp) (mode : Overflow) (x y : Option ℤ) → divides op ≡ false → decimal_value (row op mode w least greatest x y) ≡ binary (func_of op) (kinds.Decimal precision scale) mode (kinds.Decimal precision scale ∷ kinds.Decimal precision scale ∷ []) (dec_value x) (dec_value y)
+  row-decimal Add mode (Some x) (Some y) exact = settled-digits mode (x +ℤ y) ∙ ap₂ (λ x y. decimal_or faults.Overflow (kinds.Decimal precision scale) (x +ℤ y)) (sym (same_scale scale x)) (sym (same_scale scale y))
+  row-decimal Subtract mode (Some x) (Some y) exact = settled-digits mode (x -ℤ y) ∙ ap₂ (λ x y. decimal_or faults.Overflow (kinds.Decimal precision scale) (x -ℤ y)) (sym (same_scale scale x)) (sym (same_scale scale y))
+  row-decimal Multiply mode (Some x) (Some y) exact = settled-digits mode (x *ℤ y)
+  row-decimal Divide mode x y exact = absurd (cc)
+  row-decimal Modulus mode x y exact = absurd (cc)
+  row-decimal Add mode (Some x) None exact = refl
+  row-decimal Subtract mode (Some x) None exact = refl
+  row-decimal Multiply mode (Some x) None exact = refl
+  row-decimal Add mode None (Some y) exact = refl
+  row-decimal Subtract mode None (Some y) exact = refl
+  row-decimal Multiply mode None (Some y) exact = refl
+  row-decimal Add mode None None exact = refl
+  row-decimal Subtract mode None None exact = refl
+  row-decimal Multiply mode None None exact = refl

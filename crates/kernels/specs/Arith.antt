@@ -1,5 +1,5 @@
 -- Arithmetic on whole numbers whose results a range bounds.
-use Rattle.std.specs.Prelude.{◌≡◌, ℕ, ◌+◌, ◌-◌, ◌^◌, ◌≤◌, ℤ, pos, negsuc, ◌+ℤ◌, ◌-ℤ◌, ◌*ℤ◌, int_div, int_rem, int_lt, Bool, true, false, ◌&&◌, nat_le, Option, Some, None, option_map, Result, Ok, Err, FitsSigned, if◌then◌else◌}
+use Rattle.std.specs.Prelude.{◌≡◌, ℕ, ◌+◌, ◌-◌, ◌^◌, ◌≤◌, ℤ, pos, negsuc, neg_ℤ, min, ◌+ℤ◌, ◌-ℤ◌, ◌*ℤ◌, int_div, int_rem, int_lt, Bool, true, false, ◌&&◌, nat_le, Option, Some, None, option_map, Result, Ok, Err, FitsSigned, if◌then◌else◌}
 use Rattle.std.specs.Int.{Width, w128, int_wrap}
 use Rattle.std.specs.Option.{SomeIff}
 use mir.Val.{bits}
@@ -11,6 +11,7 @@ use Rattle.plan_typed.specs.declared.expr.Func.TheVariants as funcs
 use Rattle.plan_typed.specs.declared.expr.Overflow.{Overflow}
 use Rattle.plan_typed.specs.declared.expr.Overflow.TheVariants as modes
 use Rattle.plan_denote.specs.Whole.{is_zero, bits_of, wrapped}
+use Rattle.plan_denote.specs.Decimals.{MAX_DIGITS}
 use Rattle.kernels.specs.declared.op.ArithOp.{ArithOp}
 use Rattle.kernels.specs.declared.op.ArithOp.TheVariants.{Add, Subtract, Multiply, Divide, Modulus}
 
@@ -28,6 +29,12 @@ pub record IsWholeKind (kind : Kind) (w : Width) (least greatest : ℤ) : Type 0
   pub wraps : (n : ℤ) → wrapped kind n ≡ int_wrap w n
   pub is_least : least ≡ negsuc (2 ^ bits_of kind - 1)
   pub is_greatest : greatest ≡ pos (2 ^ bits_of kind - 1)
+
+-- decimals of so many digits, and their least and greatest number
+pub record IsDecimalKind (precision : ℕ) (w : Width) (least greatest : ℤ) : Type 0 where
+  pub wide : w ≡ w128
+  pub is_least : least ≡ neg_ℤ (pos (10 ^ min precision MAX_DIGITS - 1))
+  pub is_greatest : greatest ≡ pos (10 ^ min precision MAX_DIGITS - 1)
 
 abbrev pub divides : ArithOp → Bool
 divides Divide = true

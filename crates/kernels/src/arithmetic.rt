@@ -1,9 +1,10 @@
 //! Arithmetic on numbers (Substrait functions_arithmetic.yaml and functions_arithmetic_decimal.yaml), row by row up to the
 //! first fault.
-ghost use Rattle.std.specs.Prelude.{◌≡◌, [], ◌∷◌, length, map, option_map, slice_index_or, None, IfOk, FitsSigned};
+ghost use Rattle.std.specs.Prelude.{◌≡◌, ℕ, false, [], ◌∷◌, length, map, option_map, slice_index_or, None, IfOk, FitsSigned};
 ghost use Rattle.std.specs.List.{range_with_len};
 ghost use Rattle.sub_types.specs.declared.fault.FaultKind.TheVariants as faults;
 ghost use Rattle.sub_types.specs.declared.kind.Kind.{Kind};
+ghost use Rattle.sub_types.specs.declared.kind.Kind.TheVariants as kinds;
 ghost use Rattle.plan_denote.specs.Calls as calls;
 ghost use Rattle.kernels.specs.Numbers as numbers;
 ghost use Rattle.kernels.specs.Arith as spec;
@@ -31,6 +32,9 @@ pub fn arith<T: Native>(
     ensures whole { IfOk result (λ answer. (kind : Kind) → spec.IsWholeKind kind T.width (T.number least) (T.number greatest) →
         until (λ i. calls.binary (spec.func_of op) kind mode (kind ∷ kind ∷ []) (numbers.int_of T.number (slice_index_or a.entry i None)) (numbers.int_of T.number (slice_index_or b.entry i None))) (range_with_len 0 (length a.entry))
         ≡ record { values = numbers.ints T.number answer.0; stop = answer.1 }) }
+    ensures decimal { IfOk result (λ answer. (precision scale : ℕ) → spec.IsDecimalKind precision T.width (T.number least) (T.number greatest) → spec.divides op ≡ false →
+        until (λ i. calls.binary (spec.func_of op) (kinds.Decimal precision scale) mode (kinds.Decimal precision scale ∷ kinds.Decimal precision scale ∷ []) (numbers.dec_of T.number (slice_index_or a.entry i None)) (numbers.dec_of T.number (slice_index_or b.entry i None))) (range_with_len 0 (length a.entry))
+        ≡ record { values = numbers.decs T.number answer.0; stop = answer.1 }) }
 {
     let column = compute_rows(alloc, op, mode, (least, greatest), &a, &b)?;
     Ok(column)
