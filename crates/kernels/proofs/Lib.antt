@@ -7,3 +7,5 @@ pub mod TruthLaws
 pub mod PlaceLaws
 pub mod CompareLaws
 pub mod TotalLaws
+pub mod UntilLaws
+pub mod ArithLaws
