@@ -1,5 +1,5 @@
 -- What follows of the values at places, of parts and of values that were added.
-use Rattle.std.proofs.Common.{◌≡◌, ◌∙◌, ℕ, ◌-◌, ◌<◌, List, [], ◌∷◌, ◌++◌, length, map, get_or, drop, Result, Ok, Err, refl, sym, ap}
+use Rattle.std.proofs.Common.{◌≡◌, ◌∙◌, ℕ, zero, suc, ◌-◌, ◌<◌, List, [], ◌∷◌, ◌++◌, length, map, get_or, drop, replicate, Result, Ok, Err, refl, sym, ap}
 use Rattle.std.specs.Result.{OnOk}
 use Rattle.std.specs.List.{slice_range, All}
 use Rattle.std.proofs.Math.ListN.{get_or-map}
@@ -13,6 +13,11 @@ pub map-picked : {X Y : Type 0} (f : X → Y) (d : X) (at : List ℕ) (xs : List
 map-picked f d [] xs = refl
 map-picked f d (i ∷ at) xs =
     ap (λ y. y ∷ map f (picked d at xs)) (sym (get_or-map f xs i d)) ∙ ap (λ rest. get_or (map f xs) i (f d) ∷ rest) (map-picked f d at xs)
+
+-- a function of one value over and over
+pub map_replicate : {X Y : Type 0} (f : X → Y) (n : ℕ) (x : X) → map f (replicate n x) ≡ replicate n (f x)
+map_replicate f zero x = refl
+map_replicate f (suc n) x = ap (λ rest. f x ∷ rest) (map_replicate f n x)
 
 -- a function of the values, where a part of others was added
 pub map-grown : {X Y : Type 0} (f : X → Y) (old xs : List X) (from to : ℕ) → map f (old ++ slice_range xs from to) ≡ map f old ++ slice_range (map f xs) from to

@@ -3,4 +3,5 @@ pub mod KindLaws
 pub mod Built
 pub mod BatchRows
 pub mod Column
+pub mod Lent
 pub mod Growing

@@ -1,12 +1,14 @@
 // A column that grows at its end.
-ghost use Rattle.std.specs.Prelude.{◌≡◌, ◌≤◌, ◌++◌, ◌∷◌, [], length, OnOk, OnErr};
+ghost use Rattle.std.specs.Prelude.{◌≡◌, ◌≤◌, ◌++◌, ◌∷◌, [], length, All, IfOk, OnOk, OnErr};
 ghost use Rattle.std.specs.List.{slice_range};
 ghost use Rattle.sub_types.specs.Kind.{IsKind};
 ghost use Rattle.sub_types.specs.Value.{InKind};
 ghost use Rattle.batch.specs.Column.{column_values};
+ghost use Rattle.batch.specs.ColumnValues.{kind_storage};
+ghost use Rattle.batch.specs.Lent.{lent, lent_storage};
 
 use crate::data_builder::DataBuilder;
-use crate::{Column, Storage};
+use crate::{Column, DataView, Storage};
 use std::alloc::Global;
 use std::marker::Model;
 use sub_types::{NoMemory, Ty, Value};
@@ -41,6 +43,18 @@ impl ColumnBuilder {
         }
     }
 
+    /// No values of this type, with room for so many. Texts and binaries have no room for their bytes.
+    pub fn with_capacity(alloc: Global, ty: Ty, n: usize) -> Result<ColumnBuilder, NoMemory>
+        requires { IsKind ty.kind }
+        ensures ty { IfOk result (λ builder. builder.ty ≡ ty) }
+        ensures values { IfOk result (λ builder. builder.values ≡ []) }
+    {
+        Ok(ColumnBuilder {
+            ty,
+            values: DataBuilder::with_capacity(alloc, Storage::of_kind(ty.kind), n)?,
+        })
+    }
+
     /// Adds one at the end.
     pub fn push(&mut self, value: &Value) -> Result<(), NoMemory>
         requires { InKind self.old.ty.kind value.now }
@@ -61,6 +75,17 @@ impl ColumnBuilder {
         ensures err { OnErr result (self.new ≡ self.old) }
     {
         self.values.append(&more.values, from, to)
+    }
+
+    /// Adds lent values of the column's kind at the end.
+    pub fn extend(&mut self, more: &DataView<'_>) -> Result<(), NoMemory>
+        requires stored { lent_storage more.now ≡ kind_storage self.old.ty.kind }
+        requires in_kind { All (InKind self.old.ty.kind) (lent more.now) }
+        ensures ok { OnOk result (self.new.values ≡ self.old.values ++ lent more.now) }
+        ensures ty { self.new.ty ≡ self.old.ty }
+        ensures err { OnErr result (self.new ≡ self.old) }
+    {
+        self.values.extend(more)
     }
 
     /// The column of all that was added.

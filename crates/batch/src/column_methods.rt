@@ -1,15 +1,30 @@
 // What a column can be asked for.
-ghost use Rattle.std.specs.Prelude.{◌≡◌, ◌<◌, ◌≤◌, length, slice_index_or, All, IfOk};
+ghost use Rattle.std.specs.Prelude.{◌≡◌, ◌<◌, ◌≤◌, length, replicate, slice_index_or, All, IfOk};
 ghost use Rattle.std.specs.List.{slice_range};
 ghost use Rattle.batch.specs.ColumnValues.{values_of};
+ghost use Rattle.sub_types.specs.Kind.{IsKind};
+ghost use Rattle.sub_types.specs.Value.{InKind};
 ghost use Rattle.sub_types.specs.Rows.{picked};
 ghost use Rattle.sub_types.specs.declared.value.Value.TheVariants.{Null};
 
-use crate::{Column, ColumnBuilder};
+use crate::{Column, ColumnBuilder, ColumnData, Storage};
 use std::alloc::Global;
-use sub_types::NoMemory;
+use sub_types::{NoMemory, Ty, Value};
 
 impl Column {
+    /// `n` times the value, as a column of this type.
+    pub fn constant(alloc: Global, ty: Ty, value: &Value, n: usize) -> Result<Column, NoMemory>
+        requires kind { IsKind ty.kind }
+        requires in_kind { InKind ty.kind value.now }
+        ensures values { IfOk result (λ column. values_of column.values ≡ replicate n value.now) }
+        ensures ty { IfOk result (λ column. column.ty ≡ ty) }
+    {
+        Ok(Column {
+            ty,
+            values: ColumnData::constant(alloc, Storage::of_kind(ty.kind), value, n)?,
+        })
+    }
+
     /// The values at these places, in this order.
     pub fn gather(&self, alloc: Global, at: &[u64]) -> Result<Column, NoMemory>
         requires { All (λ i. i < length (values_of self.now.values)) at.now }

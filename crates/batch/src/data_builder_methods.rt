@@ -1,12 +1,13 @@
 // What the values of a column that grow can do, however they are stored.
-ghost use Rattle.std.specs.Prelude.{◌≡◌, ◌≤◌, ◌++◌, ◌∷◌, [], length, OnOk, OnErr};
+ghost use Rattle.std.specs.Prelude.{◌≡◌, ◌≤◌, ◌++◌, ◌∷◌, [], length, IfOk, OnOk, OnErr};
 ghost use Rattle.std.specs.List.{slice_range};
 ghost use Rattle.batch.specs.ColumnValues.{values_of, storage_of};
 ghost use Rattle.batch.specs.Built.{built, built_storage, IsStored};
+ghost use Rattle.batch.specs.Lent.{lent, lent_storage};
 ghost use Rattle.sub_types.specs.declared.value.Value.TheVariants.{Null};
 
 use crate::data_builder::DataBuilder;
-use crate::{ColumnData, Storage};
+use crate::{ColumnData, DataView, Storage};
 use col_fixed::{BoolBuilder, FixedBuilder};
 use col_text::TextBuilder;
 use std::alloc::Global;
@@ -26,6 +27,26 @@ impl DataBuilder {
             Storage::I64 => DataBuilder::I64(FixedBuilder::new(alloc)),
             Storage::I128 => DataBuilder::I128(FixedBuilder::new(alloc)),
             Storage::Bytes => DataBuilder::Bytes(TextBuilder::new(alloc)),
+        }
+    }
+
+    /// No values, to be stored so, with room for so many. Texts and binaries have no room for their bytes.
+    pub(crate) fn with_capacity(
+        alloc: Global,
+        storage: Storage,
+        n: usize,
+    ) -> Result<DataBuilder, NoMemory>
+        ensures values { IfOk result (λ builder. built builder ≡ []) }
+        ensures storage { IfOk result (λ builder. built_storage builder ≡ storage) }
+    {
+        match storage {
+            Storage::Bool => Ok(DataBuilder::Bool(BoolBuilder::with_capacity(alloc, n)?)),
+            Storage::I8 => Ok(DataBuilder::I8(FixedBuilder::with_capacity(alloc, n)?)),
+            Storage::I16 => Ok(DataBuilder::I16(FixedBuilder::with_capacity(alloc, n)?)),
+            Storage::I32 => Ok(DataBuilder::I32(FixedBuilder::with_capacity(alloc, n)?)),
+            Storage::I64 => Ok(DataBuilder::I64(FixedBuilder::with_capacity(alloc, n)?)),
+            Storage::I128 => Ok(DataBuilder::I128(FixedBuilder::with_capacity(alloc, n)?)),
+            Storage::Bytes => Ok(DataBuilder::Bytes(TextBuilder::with_capacity(alloc, n, 0)?)),
         }
     }
 
@@ -81,28 +102,24 @@ impl DataBuilder {
         ensures err { OnErr result (self.new ≡ self.old) }
         ensures storage { built_storage self.new ≡ built_storage self.old }
     {
+        self.extend(&more.view().part(from, to))
+    }
+
+    /// Adds the lent values at the end.
+    pub(crate) fn extend(&mut self, more: &DataView<'_>) -> Result<(), NoMemory>
+        requires { lent_storage more.now ≡ built_storage self.old }
+        ensures ok { OnOk result (built self.new ≡ built self.old ++ lent more.now) }
+        ensures err { OnErr result (self.new ≡ self.old) }
+        ensures storage { built_storage self.new ≡ built_storage self.old }
+    {
         match (self, more) {
-            (DataBuilder::Bool(builder), ColumnData::Bool(column)) => {
-                builder.append(&column.view().part(from, to))
-            }
-            (DataBuilder::I8(builder), ColumnData::I8(column)) => {
-                builder.append(&column.view().part(from, to))
-            }
-            (DataBuilder::I16(builder), ColumnData::I16(column)) => {
-                builder.append(&column.view().part(from, to))
-            }
-            (DataBuilder::I32(builder), ColumnData::I32(column)) => {
-                builder.append(&column.view().part(from, to))
-            }
-            (DataBuilder::I64(builder), ColumnData::I64(column)) => {
-                builder.append(&column.view().part(from, to))
-            }
-            (DataBuilder::I128(builder), ColumnData::I128(column)) => {
-                builder.append(&column.view().part(from, to))
-            }
-            (DataBuilder::Bytes(builder), ColumnData::Bytes(column)) => {
-                builder.append(&column.view().part(from, to))
-            }
+            (DataBuilder::Bool(builder), DataView::Bool(part)) => builder.append(part),
+            (DataBuilder::I8(builder), DataView::I8(part)) => builder.append(part),
+            (DataBuilder::I16(builder), DataView::I16(part)) => builder.append(part),
+            (DataBuilder::I32(builder), DataView::I32(part)) => builder.append(part),
+            (DataBuilder::I64(builder), DataView::I64(part)) => builder.append(part),
+            (DataBuilder::I128(builder), DataView::I128(part)) => builder.append(part),
+            (DataBuilder::Bytes(builder), DataView::Bytes(part)) => builder.append(part),
             _ => unreachable!(),
         }
     }

@@ -11,12 +11,16 @@ mod column_data_methods;
 mod column_methods;
 mod data_builder;
 mod data_builder_methods;
+mod data_view;
+mod data_view_methods;
 mod join;
+mod nullable;
 mod storage;
 
 pub use batch::{Batch, Piece};
 pub use column::Column;
 pub use column_builder::ColumnBuilder;
 pub use column_data::ColumnData;
+pub use data_view::DataView;
 pub use join::join_batches;
 pub use storage::Storage;
