@@ -6,7 +6,8 @@ ghost use Rattle.batch.specs.ColumnValues.{values_of};
 use crate::Column;
 use sub_types::Fault;
 
-/// Columns of one length. Contracts see them as a list of rows, by `rows_of`.
+/// Columns of one length. Contracts see them as a list of rows, by `rows_of`. Its columns are moved out by
+/// `let Batch { columns, .. } = batch;`, and lent by `Column::view`.
 #[derive(Debug, Drop)]
 pub struct Batch {
     /// The batch's number among those of its table, from 0.

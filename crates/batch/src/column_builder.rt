@@ -1,14 +1,13 @@
 // A column that grows at its end.
-ghost use Rattle.std.specs.Prelude.{◌≡◌, ◌≤◌, ◌++◌, ◌∷◌, [], length, All, IfOk, OnOk, OnErr};
+ghost use Rattle.std.specs.Prelude.{◌≡◌, ◌≤◌, ◌++◌, ◌∷◌, [], length, IfOk, OnOk, OnErr};
 ghost use Rattle.std.specs.List.{slice_range};
 ghost use Rattle.sub_types.specs.Kind.{IsKind};
 ghost use Rattle.sub_types.specs.Value.{InKind};
 ghost use Rattle.batch.specs.Column.{column_values};
-ghost use Rattle.batch.specs.ColumnValues.{kind_storage};
-ghost use Rattle.batch.specs.Lent.{lent, lent_storage};
+ghost use Rattle.batch.specs.Lent.{lent};
 
 use crate::data_builder::DataBuilder;
-use crate::{Column, DataView, Storage};
+use crate::{Column, ColumnView, Storage};
 use std::alloc::Global;
 use std::marker::Model;
 use sub_types::{NoMemory, Ty, Value};
@@ -77,15 +76,14 @@ impl ColumnBuilder {
         self.values.append(&more.values, from, to)
     }
 
-    /// Adds lent values of the column's kind at the end.
-    pub fn extend(&mut self, more: &DataView<'_>) -> Result<(), NoMemory>
-        requires stored { lent_storage more.now ≡ kind_storage self.old.ty.kind }
-        requires in_kind { All (InKind self.old.ty.kind) (lent more.now) }
-        ensures ok { OnOk result (self.new.values ≡ self.old.values ++ lent more.now) }
+    /// Adds the values of a lent column at the end.
+    pub fn extend(&mut self, more: &ColumnView<'_>) -> Result<(), NoMemory>
+        requires { more.now.ty.kind ≡ self.old.ty.kind }
+        ensures ok { OnOk result (self.new.values ≡ self.old.values ++ lent more.now.values) }
         ensures ty { self.new.ty ≡ self.old.ty }
         ensures err { OnErr result (self.new ≡ self.old) }
     {
-        self.values.extend(more)
+        self.values.extend(&more.values)
     }
 
     /// The column of all that was added.

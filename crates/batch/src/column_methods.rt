@@ -2,12 +2,13 @@
 ghost use Rattle.std.specs.Prelude.{◌≡◌, ◌<◌, ◌≤◌, length, replicate, slice_index_or, All, IfOk};
 ghost use Rattle.std.specs.List.{slice_range};
 ghost use Rattle.batch.specs.ColumnValues.{values_of};
+ghost use Rattle.batch.specs.Lent.{lent};
 ghost use Rattle.sub_types.specs.Kind.{IsKind};
 ghost use Rattle.sub_types.specs.Value.{InKind};
 ghost use Rattle.sub_types.specs.Rows.{picked};
 ghost use Rattle.sub_types.specs.declared.value.Value.TheVariants.{Null};
 
-use crate::{Column, ColumnBuilder, ColumnData, Storage};
+use crate::{Column, ColumnBuilder, ColumnData, ColumnView, Storage};
 use std::alloc::Global;
 use sub_types::{NoMemory, Ty, Value};
 
@@ -25,16 +26,24 @@ impl Column {
         })
     }
 
+    /// The whole column, lent.
+    pub fn view(&self) -> ColumnView<'_>
+        ensures values { lent result.values ≡ values_of self.now.values }
+        ensures ty { result.ty ≡ self.now.ty }
+    {
+        ColumnView {
+            ty: self.ty,
+            values: self.values.view(),
+        }
+    }
+
     /// The values at these places, in this order.
     pub fn gather(&self, alloc: Global, at: &[u64]) -> Result<Column, NoMemory>
         requires { All (λ i. i < length (values_of self.now.values)) at.now }
         ensures values { IfOk result (λ column. values_of column.values ≡ picked Null at.now (values_of self.now.values)) }
         ensures ty { IfOk result (λ column. column.ty ≡ self.now.ty) }
     {
-        Ok(Column {
-            ty: self.ty,
-            values: self.values.gather(alloc, at)?,
-        })
+        self.view().gather(alloc, at)
     }
 
     /// The values from `from` to before `to`.
