@@ -4,10 +4,8 @@ use Rattle.std.specs.Int.{w8, w16, w32, w64}
 use Rattle.std.specs.List.{range_with_len}
 use Rattle.std.proofs.lemmas.Bool.{false≢true}
 use Rattle.std.proofs.Math.Nat.{mul-le-mul_left}
-use Rattle.std.proofs.lemmas.List.{take_more, map-append, length-map}
 use Rattle.std.proofs.lemmas.List.FromFn.{length-map-range_with_len, get_or-map-range_with_len}
 use Rattle.byteorder.specs.Endian.{little_number}
-use Rattle.sub_types.specs.Optional.{optional}
 use Rattle.sub_types.specs.OptionalLaws.{length-optional, get_or-optional_valid, get_or-optional_null}
 use Rattle.arrow_meta.specs.Known.{is_index_size}
 use Rattle.sub_types.specs.OptionSteps.{◌>>=◌, when, all_of}

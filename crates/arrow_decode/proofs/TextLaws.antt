@@ -1,13 +1,11 @@
 -- Offsets and the texts between them.
-use Rattle.std.proofs.Common.{rules, tests, ◌≡◌, ◌∙◌, ℕ, zero, suc, ◌+◌, ◌-◌, ◌*◌, ◌%◌, ◌^◌, ◌<◌, ◌≤◌, ◌⊎◌, min, List, [], ◌∷◌, ◌++◌, length, map, take, drop, get_or, Bool, true, false, ◌&&◌, ◌==◌, nat_le, Option, Some, None, slice_index, inl, inr, refl, sym, ap, subst, arith, zero-add, add-zero, add-one}
+use Rattle.std.proofs.Common.{rules, tests, ◌≡◌, ◌∙◌, ℕ, zero, suc, ◌+◌, ◌-◌, ◌*◌, ◌%◌, ◌^◌, ◌<◌, ◌≤◌, ◌⊎◌, min, List, [], ◌∷◌, length, map, drop, get_or, Bool, true, false, ◌&&◌, ◌==◌, nat_le, Option, Some, None, slice_index, inl, inr, refl, sym, ap, subst, arith, add-zero}
 use Rattle.std.specs.Int.{w32, w64, cast_signed}
 use Rattle.std.specs.List.{range_with_len, slice_range, list_all, AllByRecursion}
-use Rattle.std.specs.Simd.{first_chunks}
 use Rattle.std.proofs.lemmas.Int.{to_z_pos}
 use Rattle.std.proofs.Math.Facts.{to_z-neg}
 use Rattle.std.proofs.lemmas.List.{get_or-drop, length-map, drop_more}
 use Rattle.std.proofs.lemmas.List.FromFn.{length-map-range_with_len}
-use Rattle.byteorder.specs.Endian.{little_number}
 use Rattle.byteorder.specs.Numbers.{little_from-lt}
 use Rattle.sub_types.specs.Optional.{optional}
 use Rattle.sub_types.specs.OptionalLaws.{length-optional}
@@ -64,14 +62,14 @@ rises-behind (u ∷ rest) begin s limit within fits all =
     let small : u < 2 ^ 64 = all.0 in
     elim (either u begin) as (λ _. (nat_le (begin + s) u && rises u rest limit) ≡ (nat_le s e && rises e (behind begin rest) (limit - begin))) [
       | inl below ↦
-        let falls : nat_le (begin + s) u ≡ false = search (rules, tests) in
-        let far : limit - begin < e = omega arith in
-        let none = rises-above e (behind begin rest) (limit - begin) far in
-        rw (falls, none) (sym (and_false (nat_le s e)))
+          let falls : nat_le (begin + s) u ≡ false = search (rules, tests) in
+          let far : limit - begin < e = omega arith in
+          let none = rises-above e (behind begin rest) (limit - begin) far in
+          rw (falls, none) (sym (and_false (nat_le s e)))
       | inr over ↦
-        let is : u ≡ begin + e = omega arith in
-        let next = rises-behind rest begin e limit within fits all.1 in
-        ap (λ b. b && rises u rest limit) (same_below begin s u e limit is) ∙ ap (λ n. nat_le s e && rises n rest limit) is ∙ ap (λ b. nat_le s e && b) next
+          let is : u ≡ begin + e = omega arith in
+          let next = rises-behind rest begin e limit within fits all.1 in
+          ap (λ b. b && rises u rest limit) (same_below begin s u e limit is) ∙ ap (λ n. nat_le s e && rises n rest limit) is ∙ ap (λ b. nat_le s e && b) next
     ]
 
 -- and they can be told from there
@@ -202,9 +200,9 @@ places-large wide (u ∷ us) all large =
     elim (either (greatest_offset wide) u) as (λ _. all_of (map (place_of wide) (u ∷ us)) ≡ None) [
       | inl above ↦ rw (place_of-large wide u above all.0) refl
       | inr within ↦
-        let test : nat_le u (greatest_offset wide) ≡ true = search (rules, tests) in
-        let others : all_small wide us ≡ false = ap (λ b. b && all_small wide us) (sym test) ∙ large in
-        rw (place_of-small wide u within, places-large wide us all.1 others) refl
+          let test : nat_le u (greatest_offset wide) ≡ true = search (rules, tests) in
+          let others : all_small wide us ≡ false = ap (λ b. b && all_small wide us) (sym test) ∙ large in
+          rw (place_of-small wide u within, places-large wide us all.1 others) refl
     ]
 
 -- numbers that rise to one that isn't below 0

@@ -1,5 +1,5 @@
 -- Offsets of 8 bytes where they are wide, and else of 4.
-use Rattle.std.specs.Prelude.{ℕ, ℤ, ◌+◌, ◌-◌, ◌*◌, ◌%◌, ◌^◌, List, [], ◌∷◌, map, Bool, true, false, ◌&&◌, nat_le, Option, Some, None, if◌then◌else◌, drop}
+use Rattle.std.specs.Prelude.{ℕ, ◌+◌, ◌-◌, ◌*◌, ◌%◌, ◌^◌, List, [], ◌∷◌, map, Bool, true, false, ◌&&◌, nat_le, Option, Some, None, if◌then◌else◌, drop}
 use Rattle.std.specs.Int.{w32, w64}
 use Rattle.std.specs.List.{range_with_len}
 use Rattle.byteorder.specs.Endian.{little_number}

@@ -88,6 +88,38 @@ fn gathers(alloc: Global, view: &TextView<'_>, at: &[u64], list: &[Option<&[u8]>
     }
 }
 
+// The same where there may be no value at a place.
+fn gathers_or_null(
+    alloc: Global,
+    view: &TextView<'_>,
+    at: &[u64],
+    list: &[Option<&[u8]>],
+) -> bool {
+    match view.gather_or_null(alloc, at) {
+        Ok(picked) => are(&picked.view(), list),
+        Err(_) => false,
+    }
+}
+
+// Whether the value, once for each of these, is these.
+fn repeats(alloc: Global, value: Option<&[u8]>, list: &[Option<&[u8]>]) -> bool {
+    match TextCol::constant(alloc, value, list.len()) {
+        Ok(column) => are(&column.view(), list),
+        Err(_) => false,
+    }
+}
+
+// Whether a builder with room for one text grows past it.
+fn grows(alloc: Global, list: &[Option<&[u8]>]) -> bool {
+    let Ok(mut builder) = TextBuilder::with_capacity(alloc, 1, 2) else {
+        return false;
+    };
+    for text in list {
+        let _ = builder.push(*text);
+    }
+    are(&builder.finish().view(), list)
+}
+
 // Both with an exclamation mark between them.
 fn joined(alloc: Global, a: &TextView<'_>, b: &TextView<'_>) -> Result<TextCol, NoMemory> {
     let mut builder = TextBuilder::new(alloc);
@@ -137,6 +169,24 @@ fn part_gather_and_append(rt: HostRuntime) {
         has_buffers(&part, b"three", &[0, 0, 5, 5]),
         gathers(alloc, &part, &[1, 0, 1], &[three, None, three]),
         joins(alloc, &part, &end, b"three!\xff\xff", &[0, 0, 5, 5, 6, 8]),
+    ];
+    assert_eq!(rt; first_false(&seen), None);
+}
+
+#[test]
+fn no_place_one_value_and_room(rt: HostRuntime) {
+    let alloc = rt.alloc();
+    let one = Some(b"one".as_slice());
+    let empty = Some(b"".as_slice());
+    let column = column_of(alloc, &[one, None, empty]);
+    let part = part_of(&column.view(), 1, 3);
+    let seen = [
+        gathers_or_null(alloc, &column.view(), &[2, 3, 0, 1], &[empty, None, one, None]),
+        gathers_or_null(alloc, &column.view(), &[0, 0], &[one, one]),
+        gathers_or_null(alloc, &part, &[1, 2, u64::MAX], &[empty, None, None]),
+        repeats(alloc, one, &[one, one, one]),
+        repeats(alloc, None, &[None, None]),
+        grows(alloc, &[one, None, one, empty]),
     ];
     assert_eq!(rt; first_false(&seen), None);
 }

@@ -1,11 +1,10 @@
-use Rattle.std.proofs.Common.{rules, tests, ◌≡◌, ◌∙◌, ℕ, ◌+◌, ◌-◌, ◌*◌, ◌≤◌, ◌<◌, [], Some, true, false, get_or, length, ap, sym, arith}
-use Rattle.std.specs.List.{slice_range}
+use Rattle.std.proofs.Common.{rules, tests, ◌≡◌, ◌∙◌, ℕ, ◌+◌, ◌-◌, ◌*◌, Some, true, false, length, ap, sym, arith}
 use Rattle.std.proofs.Math.Facts.{Fits-lt-pow}
 use Rattle.sub_types.specs.Optional.{optional}
 use Rattle.col_text.specs.Text.{pieces}
 use Rattle.arrow_meta.specs.Values.{binaries_in}
 use Rattle.arrow_decode.specs.Offsets.{rises}
-use Rattle.arrow_decode.proofs.TextLaws.{IsReadAs, is_read_as, binaries_in-none, binaries_in-short, binaries_in-above, binaries_in-falls, binaries_in-good, ends_within, most-fits, length-ends, Rise-size}
+use Rattle.arrow_decode.proofs.TextLaws.{is_read_as, binaries_in-none, binaries_in-short, binaries_in-above, binaries_in-falls, binaries_in-good, ends_within, most-fits, length-ends, Rise-size}
 use Rattle.arrow_decode.proofs.text.binaries.Goals as goal
 
 pub returns-then-count-eq0 : goal.returns-then-count-eq0
