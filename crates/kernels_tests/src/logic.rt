@@ -1,0 +1,124 @@
+// Kernels on columns of truth values.
+use col_fixed::{BoolBuilder, BoolCol};
+use kernels::{and3, not3, or3, select, xor3};
+use std::alloc::Global;
+
+// true, false and null in turn.
+fn value(i: usize, nulls: bool, step: usize) -> Option<bool> {
+    let place = i / step.max(1) % 3;
+    if nulls && place == 2 {
+        None
+    } else {
+        Some(place == 0)
+    }
+}
+
+fn column(alloc: Global, n: usize, nulls: bool, step: usize) -> BoolCol {
+    let mut builder = BoolBuilder::new(alloc);
+    for i in 0..n {
+        let _ = builder.push(value(i, nulls, step));
+    }
+    builder.finish()
+}
+
+fn and_of(a: Option<bool>, b: Option<bool>) -> Option<bool> {
+    if a == Some(false) || b == Some(false) {
+        Some(false)
+    } else if a.is_none() || b.is_none() {
+        None
+    } else {
+        Some(true)
+    }
+}
+
+fn opposite(a: Option<bool>) -> Option<bool> {
+    a.map(|truth| !truth)
+}
+
+fn or_of(a: Option<bool>, b: Option<bool>) -> Option<bool> {
+    opposite(and_of(opposite(a), opposite(b)))
+}
+
+fn xor_of(a: Option<bool>, b: Option<bool>) -> Option<bool> {
+    if a.is_none() || b.is_none() {
+        None
+    } else {
+        Some(a != b)
+    }
+}
+
+// Whether the four columns are what the loops say.
+fn are(a: &BoolCol, b: &BoolCol, seen: &[BoolCol; 4]) -> bool {
+    let [both, either, differ, other] = seen;
+    let len = a.len();
+    if b.len() != len
+        || both.len() != len
+        || either.len() != len
+        || differ.len() != len
+        || other.len() != len
+    {
+        return false;
+    }
+    for i in 0..len {
+        let (x, y) = (a.value_at(i), b.value_at(i));
+        if both.value_at(i) != and_of(x, y) || either.value_at(i) != or_of(x, y) {
+            return false;
+        }
+        if differ.value_at(i) != xor_of(x, y) || other.value_at(i) != opposite(x) {
+            return false;
+        }
+    }
+    true
+}
+
+fn connects(alloc: Global, n: usize, nulls: bool) -> bool {
+    let a = column(alloc, n, nulls, 1);
+    let b = column(alloc, n, nulls, 3);
+    if a.len() != b.len() {
+        return false;
+    }
+    match (
+        and3(alloc, &a, &b),
+        or3(alloc, &a, &b),
+        xor3(alloc, &a, &b),
+        not3(alloc, &a),
+    ) {
+        (Ok(both), Ok(either), Ok(differ), Ok(other)) => are(
+            &a,
+            &b,
+            &[both, either, differ, other],
+        ),
+        _ => false,
+    }
+}
+
+// Whether these are the places of the true values.
+fn are_places(a: &BoolCol, rows: &[u64]) -> bool {
+    let mut count = 0;
+    for i in 0..a.len() {
+        if a.value_at(i) == Some(true) {
+            if rows.get(count) != Some(&(i as u64)) {
+                return false;
+            }
+            count += 1;
+        }
+    }
+    rows.len() == count
+}
+
+fn selects(alloc: Global, n: usize, nulls: bool) -> bool {
+    let a = column(alloc, n, nulls, 2);
+    match select(alloc, &a) {
+        Ok(selection) => are_places(&a, &selection.rows),
+        Err(_) => false,
+    }
+}
+
+#[test]
+fn logic_and_true_places_of_each_length(rt: HostRuntime) {
+    let alloc = rt.alloc();
+    for n in 0..131 {
+        assert!(rt; connects(alloc, n, false) && connects(alloc, n, true));
+        assert!(rt; selects(alloc, n, false) && selects(alloc, n, true));
+    }
+}
