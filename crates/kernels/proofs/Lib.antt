@@ -9,3 +9,4 @@ pub mod CompareLaws
 pub mod TotalLaws
 pub mod UntilLaws
 pub mod ArithLaws
+pub mod AllLaws

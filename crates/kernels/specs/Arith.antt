@@ -1,5 +1,5 @@
 -- Arithmetic on whole numbers whose results a range bounds.
-use Rattle.std.specs.Prelude.{◌≡◌, ℕ, ◌+◌, ◌-◌, ◌^◌, ◌≤◌, ℤ, pos, negsuc, neg_ℤ, min, ◌+ℤ◌, ◌-ℤ◌, ◌*ℤ◌, int_div, int_rem, int_lt, Bool, true, false, ◌&&◌, nat_le, Option, Some, None, option_map, Result, Ok, Err, FitsSigned, if◌then◌else◌}
+use Rattle.std.specs.Prelude.{◌≡◌, ℕ, ◌-◌, ◌^◌, ◌<◌, ◌≤◌, ℤ, List, length, slice_index_or, pos, negsuc, neg_ℤ, min, ◌+ℤ◌, ◌-ℤ◌, ◌*ℤ◌, int_div, int_rem, int_lt, Bool, true, false, ◌&&◌, nat_le, Option, Some, None, option_map, Result, Ok, Err, FitsSigned, if◌then◌else◌}
 use Rattle.std.specs.Int.{Width, w128, int_wrap}
 use Rattle.std.specs.Option.{SomeIff}
 use mir.Val.{bits}
@@ -83,3 +83,14 @@ rows_number number (Err kind) = Err kind
 abbrev pub IsExact : Result (Option ℤ) FaultKind → ArithOp → ℤ → ℤ → Type 0
 IsExact (Ok n) op x y = ((divides op && is_zero y) ≡ false) × SomeIff n (FitsSigned w128 (exact op x y)) (exact op x y)
 IsExact (Err kind) op x y = ((divides op && is_zero y) ≡ true) × (kind ≡ faults.DivideByZero)
+
+-- a result of two numbers within the range
+pub record IsResult (op : ArithOp) (least greatest x y result : ℤ) : Type 0 where
+  pub is : result ≡ exact op x y
+  pub low : int_lt result least ≡ false
+  pub high : int_lt greatest result ≡ false
+
+-- the results at the first so many places
+pub record AreResults {T : Type 0} (op : ArithOp) (number : T → ℤ) (filler least greatest : T) (a b values : List T) (count : ℕ) : Type 0 where
+  pub long : length values ≡ length a
+  pub results : (k : ℕ) → k < count → IsResult op (number least) (number greatest) (number (slice_index_or a k filler)) (number (slice_index_or b k filler)) (number (slice_index_or values k filler))

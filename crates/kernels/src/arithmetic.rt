@@ -1,6 +1,6 @@
 //! Arithmetic on numbers (Substrait functions_arithmetic.yaml and functions_arithmetic_decimal.yaml), row by row up to the
 //! first fault.
-ghost use Rattle.std.specs.Prelude.{◌≡◌, ℕ, false, [], ◌∷◌, length, map, option_map, slice_index_or, None, IfOk, FitsSigned};
+ghost use Rattle.std.specs.Prelude.{◌≡◌, ℕ, false, [], ◌∷◌, length, map, option_map, slice_index_or, Some, None, IfOk, FitsSigned};
 ghost use Rattle.std.specs.List.{range_with_len};
 ghost use Rattle.sub_types.specs.declared.fault.FaultKind.TheVariants as faults;
 ghost use Rattle.sub_types.specs.declared.kind.Kind.{Kind};
@@ -10,6 +10,8 @@ ghost use Rattle.kernels.specs.Numbers as numbers;
 ghost use Rattle.kernels.specs.Arith as spec;
 ghost use Rattle.kernels.specs.Until.{Until, until};
 
+use crate::all_rows::compute_all;
+use crate::comparison::both_valid;
 use crate::{ArithOp, Stop};
 use col_fixed::{Fixed, FixedBuilder, Native, View};
 use plan_typed::Overflow;
@@ -36,8 +38,58 @@ pub fn arith<T: Native>(
         until (λ i. calls.binary (spec.func_of op) (kinds.Decimal precision scale) mode (kinds.Decimal precision scale ∷ kinds.Decimal precision scale ∷ []) (numbers.dec_of T.number (slice_index_or a.entry i None)) (numbers.dec_of T.number (slice_index_or b.entry i None))) (range_with_len 0 (length a.entry))
         ≡ record { values = numbers.decs T.number answer.0; stop = answer.1 }) }
 {
-    let column = compute_rows(alloc, op, mode, (least, greatest), &a, &b)?;
+    let column = compute_columns(alloc, op, mode, (least, greatest), &a, &b)?;
     Ok(column)
+}
+
+/// The same of each number and a constant on its right.
+pub fn arith_constant<T: Native>(
+    alloc: Global,
+    op: ArithOp,
+    mode: Overflow,
+    least: T,
+    greatest: T,
+    a: View<'_, T>,
+    constant: T,
+) -> Result<(Fixed<T>, Stop), NoMemory>
+    ensures whole { IfOk result (λ answer. (kind : Kind) → spec.IsWholeKind kind T.width (T.number least) (T.number greatest) →
+        until (λ i. calls.binary (spec.func_of op) kind mode (kind ∷ kind ∷ []) (numbers.int_of T.number (slice_index_or a.entry i None)) (numbers.int_of T.number (Some constant))) (range_with_len 0 (length a.entry))
+        ≡ record { values = numbers.ints T.number answer.0; stop = answer.1 }) }
+    ensures decimal { IfOk result (λ answer. (precision scale : ℕ) → spec.IsDecimalKind precision T.width (T.number least) (T.number greatest) → spec.divides op ≡ false →
+        until (λ i. calls.binary (spec.func_of op) (kinds.Decimal precision scale) mode (kinds.Decimal precision scale ∷ kinds.Decimal precision scale ∷ []) (numbers.dec_of T.number (slice_index_or a.entry i None)) (numbers.dec_of T.number (Some constant))) (range_with_len 0 (length a.entry))
+        ≡ record { values = numbers.decs T.number answer.0; stop = answer.1 }) }
+{
+    let column = compute_rows_constant(alloc, op, mode, (least, greatest), &a, constant)?;
+    Ok(column)
+}
+
+// All rows at once, and row by row where one of them is beyond the range, whether or not it is null.
+fn compute_columns<T: Native>(
+    alloc: Global,
+    op: ArithOp,
+    mode: Overflow,
+    range: (T, T),
+    a: &View<'_, T>,
+    b: &View<'_, T>,
+) -> Result<(Fixed<T>, Stop), NoMemory>
+    requires { length a.now ≡ length b.now }
+    ensures { IfOk result (λ answer. until (λ i. spec.row op mode T.width (T.number range.0) (T.number range.1) (option_map T.number (slice_index_or a.now i None)) (option_map T.number (slice_index_or b.now i None))) (range_with_len 0 (length a.now))
+        ≡ record { values = map (option_map T.number) answer.0; stop = answer.1 }) }
+{
+    if is_division(op) {
+        return compute_rows(alloc, op, mode, range, a, b);
+    }
+    let Some(values) = compute_all(alloc, op, range, a.values(), b.values())? else {
+        return compute_rows(alloc, op, mode, range, a, b);
+    };
+    let valid = both_valid(alloc, a, b)?;
+    Ok((Fixed::from_parts(values, valid), Stop::Never))
+}
+
+fn is_division(op: ArithOp) -> bool
+    ensures { result ≡ spec.divides op }
+{
+    matches!(op, ArithOp::Divide | ArithOp::Modulus)
 }
 
 fn compute_rows<T: Native>(
@@ -55,6 +107,33 @@ fn compute_rows<T: Native>(
     let mut column = FixedBuilder::new(alloc);
     for i in 0..a.len() {
         match compute_row(op, mode, range, a.value_at(i), b.value_at(i)) {
+            Ok(value) => column.push(value)?,
+            Err(kind) => return Ok((
+                column.finish(),
+                Stop::At {
+                    row: i as u64,
+                    kind,
+                },
+            )),
+        }
+    }
+    Ok((column.finish(), Stop::Never))
+}
+
+fn compute_rows_constant<T: Native>(
+    alloc: Global,
+    op: ArithOp,
+    mode: Overflow,
+    range: (T, T),
+    a: &View<'_, T>,
+    constant: T,
+) -> Result<(Fixed<T>, Stop), NoMemory>
+    ensures { IfOk result (λ answer. until (λ i. spec.row op mode T.width (T.number range.0) (T.number range.1) (option_map T.number (slice_index_or a.now i None)) (Some (T.number constant))) (range_with_len 0 (length a.now))
+        ≡ record { values = map (option_map T.number) answer.0; stop = answer.1 }) }
+{
+    let mut column = FixedBuilder::new(alloc);
+    for i in 0..a.len() {
+        match compute_row(op, mode, range, a.value_at(i), Some(constant)) {
             Ok(value) => column.push(value)?,
             Err(kind) => return Ok((
                 column.finish(),

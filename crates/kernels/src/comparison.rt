@@ -2,6 +2,7 @@
 ghost use Rattle.std.specs.Prelude.{◌≡◌, ◌<◌, ◌≤◌, ◌*◌, ◌+◌, length, map, min, replicate, Ok, Some, IfOk, is_some};
 ghost use Rattle.std.specs.Ordering.{int_cmp};
 ghost use Rattle.std.specs.Simd.Lanes.{zip2, mask_l};
+ghost use Rattle.sub_types.specs.BitSteps.{both};
 ghost use Rattle.sub_types.specs.Nullable.{bool_value};
 ghost use Rattle.plan_denote.specs.Logic as spec;
 ghost use Rattle.kernels.specs.Numbers as numbers;
@@ -50,8 +51,7 @@ fn compare_views<T: Native>(
     ensures { IfOk result (λ column. column ≡ zip2 (numbers.compared T.number op) a.now b.now) }
 {
     let tests = compare_values(alloc, op, a.values(), b.values())?;
-    let mut valid = validity(alloc, a)?;
-    valid.mask(&validity(alloc, b)?);
+    let valid = both_valid(alloc, a, b)?;
     Ok(BoolCol::from_parts(tests, valid))
 }
 
@@ -65,6 +65,20 @@ fn compare_view<T: Native>(
 {
     let tests = compare_values_constant(alloc, op, a.values(), constant)?;
     Ok(BoolCol::from_parts(tests, validity(alloc, a)?))
+}
+
+// At which places both values are there.
+pub(crate) fn both_valid<T: Native>(
+    alloc: Global,
+    a: &View<'_, T>,
+    b: &View<'_, T>,
+) -> Result<Bits, NoMemory>
+    requires { length a.now ≡ length b.now }
+    ensures { IfOk result (λ bits. bits ≡ both (map is_some a.now) (map is_some b.now)) }
+{
+    let mut valid = validity(alloc, a)?;
+    valid.mask(&validity(alloc, b)?);
+    Ok(valid)
 }
 
 // Which values are there, from the first bit on.

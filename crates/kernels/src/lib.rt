@@ -2,6 +2,7 @@
 //! `plan_denote`. It stands on `col_fixed` for columns and on `memchr` for searches.
 #![tactic(auto)]
 
+mod all_rows;
 mod arithmetic;
 mod comparison;
 mod logic;
@@ -12,7 +13,7 @@ mod selection;
 mod text;
 mod total;
 
-pub use arithmetic::arith;
+pub use arithmetic::{arith, arith_constant};
 pub use comparison::{compare, compare_constant};
 pub use logic::{and3, not3, or3, xor3};
 pub use op::{ArithOp, CompareOp};

@@ -1,6 +1,8 @@
 // Kernels on columns of numbers.
 use col_fixed::{BoolCol, Fixed, FixedBuilder, Native, View};
-use kernels::{ArithOp, CompareOp, Stop, WideSum, arith, compare, compare_constant, sum};
+use kernels::{
+    ArithOp, CompareOp, Stop, WideSum, arith, arith_constant, compare, compare_constant, sum,
+};
 use plan_typed::Overflow;
 use std::alloc::Global;
 use std::cmp::Ordering;
@@ -17,10 +19,10 @@ const COMPARISONS: [CompareOp; 6] = [
 
 // Small numbers in turn, both ends of the type among them, and nulls if they are wanted.
 fn value<T: Native>(i: usize, nulls: bool, seed: usize) -> Option<T> {
-    if nulls && (i % 5 + seed) % 3 == 0 {
+    if nulls && (i % 5 + seed % 3) % 3 == 0 {
         return None;
     }
-    let place = (i % 11 * 7 + seed) % 13;
+    let place = (i % 11 * 7 + seed % 13) % 13;
     let number = if place == 11 {
         i128::MIN
     } else if place == 12 {
@@ -35,7 +37,7 @@ fn value<T: Native>(i: usize, nulls: bool, seed: usize) -> Option<T> {
 fn column<T: Native>(alloc: Global, n: usize, nulls: bool, seed: usize) -> Fixed<T> {
     let mut builder = FixedBuilder::new(alloc);
     for i in 0..n {
-        let _ = builder.push(value(i, nulls, seed % 7));
+        let _ = builder.push(value(i, nulls, seed));
     }
     builder.finish()
 }
@@ -91,10 +93,12 @@ fn are_constant<T: Native>(column: &BoolCol, op: CompareOp, a: &View<'_, T>, con
 }
 
 fn compares<T: Native>(alloc: Global, op: CompareOp, a: &View<'_, T>, b: &View<'_, T>) -> bool {
-    if a.len() != b.len() {
+    let left = part_of(a, 0, a.len());
+    let right = part_of(b, 0, b.len());
+    if left.len() != right.len() {
         return false;
     }
-    match compare(alloc, op, part_of(a, 0, a.len()), part_of(b, 0, b.len())) {
+    match compare(alloc, op, left, right) {
         Ok(column) => are(&column, op, a, b),
         Err(_) => false,
     }
@@ -264,22 +268,47 @@ fn computes<T: Native>(
     a: &View<'_, T>,
     b: &View<'_, T>,
 ) -> bool {
-    if a.len() != b.len() {
+    let left = part_of(a, 0, a.len());
+    let right = part_of(b, 0, b.len());
+    if left.len() != right.len() {
         return false;
     }
     let half = 1i128.wrapping_shl(bits.wrapping_sub(1));
     let least = T::wrapped(half.wrapping_neg());
     let greatest = T::wrapped(half.wrapping_sub(1));
-    match arith(
+    match arith(alloc, op, mode, least, greatest, left, right) {
+        Ok((column, stop)) => is_result(op, mode, bits, a, b, &column, stop),
+        Err(_) => false,
+    }
+}
+
+// The same of a column with a constant, which is also laid out in a column for the loop.
+fn computes_constant<T: Native>(
+    alloc: Global,
+    op: ArithOp,
+    mode: Overflow,
+    bits: u32,
+    a: &View<'_, T>,
+    constant: T,
+) -> bool {
+    let mut constants = FixedBuilder::new(alloc);
+    for _ in 0..a.len() {
+        let _ = constants.push(Some(constant));
+    }
+    let constants = constants.finish();
+    let half = 1i128.wrapping_shl(bits.wrapping_sub(1));
+    let least = T::wrapped(half.wrapping_neg());
+    let greatest = T::wrapped(half.wrapping_sub(1));
+    match arith_constant(
         alloc,
         op,
         mode,
         least,
         greatest,
         part_of(a, 0, a.len()),
-        part_of(b, 0, b.len()),
+        constant,
     ) {
-        Ok((column, stop)) => is_result(op, mode, bits, a, b, &column, stop),
+        Ok((column, stop)) => is_result(op, mode, bits, a, &constants.view(), &column, stop),
         Err(_) => false,
     }
 }
@@ -298,7 +327,9 @@ fn computes_all<T: Native>(alloc: Global, bits: u32, nulls: bool) -> bool {
                 ArithOp::Divide,
                 ArithOp::Modulus,
             ] {
-                if !computes(alloc, op, mode, bits, &left, &right) {
+                if !computes(alloc, op, mode, bits, &left, &right)
+                    || !computes_constant(alloc, op, mode, bits, &left, T::wrapped(3))
+                {
                     return false;
                 }
             }

@@ -14,11 +14,11 @@ compare_values-requires g c = ap length c.values.ensures ∙ length-slots g.T.Na
 pub from_parts-requires : goal.from_parts-requires
 from_parts-requires g c =
     let tests = c.in_ok-tests.ensures ∙ ap₂ (zip2 (holds g.T.Native.number c.args.op)) c.values.ensures c.values-2.ensures in
-    let valid = c.mask.ensures ∙ ap₂ both c.in_ok-valid.ensures c.in_ok-validity.ensures in
+    let valid = c.in_ok-valid.ensures in
     ap length tests ∙ length-tests g.T.Native.number c.args.op g.T.Native.zero c.args.a.now c.args.b.now c.requires ∙ sym (ap length valid ∙ length-both_valid c.args.a.now c.args.b.now c.requires)
 
 pub returns : goal.returns
 returns g c =
     let tests = c.in_ok-tests.ensures ∙ ap₂ (zip2 (holds g.T.Native.number c.args.op)) c.values.ensures c.values-2.ensures in
-    let valid = c.mask.ensures ∙ ap₂ both c.in_ok-valid.ensures c.in_ok-validity.ensures in
+    let valid = c.in_ok-valid.ensures in
     c.from_parts.ensures ∙ ap₂ optional tests valid ∙ optional-compared g.T.Native.number c.args.op g.T.Native.zero c.args.a.now c.args.b.now

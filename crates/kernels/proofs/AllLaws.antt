@@ -1,0 +1,147 @@
+-- Results of all rows at once.
+use Rattle.std.proofs.Common.{◌≡◌, ◌∙◌, ℕ, zero, suc, ◌+◌, ◌<◌, ◌≤◌, ℤ, List, [], ◌∷◌, Bool, true, false, ◌&&◌, ◌||◌, cond, length, map, get_or, set, take, Option, Some, None, is_some, unwrap_or, option_map, Ok, Result, inl, inr, FitsSigned, refl, sym, ap, ap₂, subst, arith}
+use Rattle.std.specs.Prelude.{int_lt}
+use Rattle.std.specs.Bool.{FalseIff}
+use Rattle.std.specs.Int.{Width, int_wrap}
+use Rattle.std.specs.List.{range_with_len}
+use Rattle.std.proofs.lemmas.Bool.{cases_lt}
+use Rattle.std.proofs.lemmas.Int.{int_wrap_fits}
+use Rattle.std.proofs.lemmas.List.{get_or-set_same, get_or-set_other, length-set, get_or-map, length-map, take_more, take_all}
+use Rattle.sub_types.specs.declared.fault.FaultKind.{FaultKind}
+use Rattle.sub_types.specs.BitSteps.{both}
+use Rattle.sub_types.specs.Optional.{optional}
+use Rattle.sub_types.specs.OptionalLaws.{get_or-optional_valid, get_or-optional_null, length-optional}
+use Rattle.sub_types.specs.Slots.{slots, length-slots}
+use Rattle.plan_typed.specs.declared.expr.Overflow.{Overflow}
+use Rattle.plan_denote.specs.Whole as whole
+use Rattle.kernels.specs.declared.op.ArithOp.{ArithOp}
+use Rattle.kernels.specs.declared.selection.Stop.TheVariants.{Never}
+use Rattle.kernels.specs.Arith.{divides, exact, settled, computed, some_of, row, IsResult, AreResults}
+use Rattle.kernels.specs.Until.{Until, step, until}
+use Rattle.kernels.proofs.CompareLaws.{length-both_valid}
+use Rattle.kernels.proofs.UntilLaws.{IsSoFar, IsSoFar-none, IsSoFar-more, IsSoFar-end}
+
+-- what is left of a number that fits is the number
+pub not_lost : (w : Width) (r n : ℤ) (lost : Bool) → r ≡ int_wrap w n → FalseIff lost (FitsSigned w n) → lost ≡ false → r ≡ n
+not_lost w r n true is fits fine = absurd (cc)
+not_lost w r n false is fits fine = is ∙ int_wrap_fits w n fits
+
+both_false : (a b : Bool) → (a || b) ≡ false → (a ≡ false) × (b ≡ false)
+both_false true b e = absurd (cc)
+both_false false b e = (refl, e)
+
+module _ {T : Type 0} (op : ArithOp) (number : T → ℤ) (filler least greatest : T) (a b : List T) where
+  -- the results so far, unless one was lost
+  pub record KeepsResults (values : List T) (i : ℕ) (lost : Bool) : Type 0 where
+    pub long : length values ≡ length a
+    pub results : lost ≡ false → AreResults op number filler least greatest a b values i
+
+  pub KeepsResults-none : (values : List T) → length values ≡ length a → KeepsResults values 0 false
+  KeepsResults-none values long = record { long = long; results = λ fine. record { long = long; results = λ k lt. absurd (omega arith) } }
+
+  pub KeepsResults-more : (values : List T) (i : ℕ) (lost is_lost beyond : Bool) (x y value : T) → KeepsResults values i lost → i < length a → x ≡ get_or a i x → y ≡ get_or b i y → length a ≡ length b
+      → (is_lost ≡ false → number value ≡ exact op (number x) (number y)) → beyond ≡ (int_lt (number value) (number least) || int_lt (number greatest) (number value))
+      → KeepsResults (set values i value) (i + 1) ((lost || is_lost) || beyond)
+  KeepsResults-more values i lost is_lost beyond x y value kept below is_x is_y same exactly ends = record { long = length-set values i value ∙ kept.long; results = results }
+    where
+      same_default : (xs : List T) (i : ℕ) (d e : T) → i < length xs → get_or xs i d ≡ get_or xs i e
+      same_default [] i d e lt = absurd (omega arith)
+      same_default (z ∷ xs) zero d e lt = refl
+      same_default (z ∷ xs) (suc i) d e lt = same_default xs i d e (omega arith)
+
+      results : ((lost || is_lost) || beyond) ≡ false → AreResults op number filler least greatest a b (set values i value) (i + 1)
+      results fine =
+          let outer = both_false (lost || is_lost) beyond fine in
+          let inner = both_false lost is_lost outer.0 in
+          let within = both_false (int_lt (number value) (number least)) (int_lt (number greatest) (number value)) (sym ends ∙ outer.1) in
+          let old = kept.results inner.0 in
+          let at_a : x ≡ get_or a i filler = is_x ∙ same_default a i x filler below in
+          let at_b : y ≡ get_or b i filler = is_y ∙ same_default b i y filler (omega arith) in
+          let at_value : value ≡ get_or (set values i value) i filler = sym (get_or-set_same values i value filler (omega (arith, kept.long))) in
+          let new : IsResult op (number least) (number greatest) (number x) (number y) (number value) = record { is = exactly inner.1; low = within.0; high = within.1 } in
+          record {
+            long = length-set values i value ∙ kept.long;
+            results = λ k lt. elim (cases_lt k i) [
+              | inl before ↦
+                  let apart : k ≡ i → ⊥ = λ e. absurd (omega arith) in
+                  subst (λ v. IsResult op (number least) (number greatest) (number (get_or a k filler)) (number (get_or b k filler)) (number v)) (sym (get_or-set_other values i k value filler apart)) (old.results k before)
+              | inr after ↦
+                  let e : i ≡ k = omega arith in
+                  subst (λ j. IsResult op (number least) (number greatest) (number (get_or a j filler)) (number (get_or b j filler)) (number (get_or (set values i value) j filler))) e
+                  (subst (λ v. IsResult op (number least) (number greatest) (number (get_or a i filler)) (number (get_or b i filler)) (number v)) at_value
+                  (subst (λ y. IsResult op (number least) (number greatest) (number (get_or a i filler)) (number y) (number value)) at_b
+                  (subst (λ x. IsResult op (number least) (number greatest) (number x) (number y) (number value)) at_a new)))
+            ];
+          }
+
+-- ---- columns
+
+module _ {X : Type 0} (f : ℕ → Result X FaultKind) (n : ℕ) (values : List X) (d : X) (long : length values ≡ n) (each : (k : ℕ) → k < n → f k ≡ Ok (get_or values k d)) where
+  so_far-all : (i : ℕ) → i ≤ n → IsSoFar f n i (take i values)
+  so_far-all zero most = IsSoFar-none f n
+  so_far-all (suc i) most =
+      let next : i + 1 ≡ suc i = omega arith in
+      let before = so_far-all i (omega arith) in
+      let more = IsSoFar-more f n i (take i values) (get_or values i d) before (omega arith) (each i (omega arith)) in
+      subst (λ j. IsSoFar f n j (take j values)) next (subst (IsSoFar f n (i + 1)) (sym (take_more values i d (omega arith))) more)
+
+  pub until-all : until f (range_with_len 0 n) ≡ record { values = values; stop = Never }
+  until-all = IsSoFar-end f n n values (subst (IsSoFar f n n) (take_all n values (omega arith)) (so_far-all n (omega arith))) (omega arith)
+
+get_or-both : (xs ys : List Bool) (k : ℕ) → length xs ≡ length ys → get_or (both xs ys) k false ≡ (get_or xs k false && get_or ys k false)
+get_or-both [] [] k same = refl
+get_or-both [] (y ∷ ys) k same = absurd (omega arith)
+get_or-both (x ∷ xs) [] k same = absurd (omega arith)
+get_or-both (x ∷ xs) (y ∷ ys) zero same = refl
+get_or-both (x ∷ xs) (y ∷ ys) (suc k) same = get_or-both xs ys k (omega arith)
+
+module _ {T : Type 0} (op : ArithOp) (mode : Overflow) (w : Width) (number : T → ℤ) (filler least greatest : T) (exactly : divides op ≡ false) where
+  place : (x y : Option T) (value : T) → IsResult op (number least) (number greatest) (number (unwrap_or x filler)) (number (unwrap_or y filler)) (number value)
+      → row op mode w (number least) (number greatest) (option_map number x) (option_map number y) ≡ Ok (option_map number (cond (is_some x && is_some y) (Some value) None))
+  place (Some x) (Some y) value r = rw (exactly, ← r.is, r.low, r.high) refl
+  place (Some x) None value r = refl
+  place None (Some y) value r = refl
+  place None None value r = refl
+
+  -- all rows, if each result is within the range
+  pub rows-all : (a b : List (Option T)) (values : List T) → length a ≡ length b → AreResults op number filler least greatest (slots filler a) (slots filler b) values (length (slots filler a))
+      → until (λ i. row op mode w (number least) (number greatest) (option_map number (get_or a i None)) (option_map number (get_or b i None))) (range_with_len 0 (length a))
+      ≡ record { values = map (option_map number) (optional values (both (map is_some a) (map is_some b))); stop = Never }
+  rows-all a b values same are =
+      until-all (λ i. row op mode w (number least) (number greatest) (option_map number (get_or a i None)) (option_map number (get_or b i None))) (length a) (map (option_map number) column) None (length-map column (option_map number) ∙ long) each
+    where
+      valid : List Bool
+      valid = both (map is_some a) (map is_some b)
+
+      column : List (Option T)
+      column = optional values valid
+
+      long_values : length values ≡ length a
+      long_values = are.long ∙ length-slots filler a
+
+      long_valid : length values ≡ length valid
+      long_valid = long_values ∙ sym (length-both_valid a b same)
+
+      long : length column ≡ length a
+      long = length-optional values valid long_valid ∙ long_values
+
+      slot : (xs : List (Option T)) (k : ℕ) → k < length xs → get_or (slots filler xs) k filler ≡ unwrap_or (get_or xs k None) filler
+      slot xs k lt = get_or-map (λ value. unwrap_or value filler) xs k None filler lt
+
+      there : (xs : List (Option T)) (k : ℕ) → k < length xs → get_or (map is_some xs) k false ≡ is_some (get_or xs k None)
+      there xs k lt = get_or-map is_some xs k None false lt
+
+      at_column : (k : ℕ) (v : Bool) → get_or valid k false ≡ v → get_or column k None ≡ cond v (Some (get_or values k filler)) None
+      at_column k true e = get_or-optional_valid values valid k filler long_valid e
+      at_column k false e = get_or-optional_null values valid k e
+
+      each : (k : ℕ) → k < length a → row op mode w (number least) (number greatest) (option_map number (get_or a k None)) (option_map number (get_or b k None)) ≡ Ok (get_or (map (option_map number) column) k None)
+      each k lt =
+          let ours : k < length (slots filler a) = let l = length-slots filler a in omega arith in
+          let result = are.results k ours in
+          let held = subst (λ y. IsResult op (number least) (number greatest) (number (unwrap_or (get_or a k None) filler)) (number y) (number (get_or values k filler))) (slot b k (omega arith))
+          (subst (λ x. IsResult op (number least) (number greatest) (number x) (number (get_or (slots filler b) k filler)) (number (get_or values k filler))) (slot a k lt) result) in
+          let flags = get_or-both (map is_some a) (map is_some b) k (length-map a is_some ∙ same ∙ sym (length-map b is_some)) ∙ ap₂ ◌&&◌ (there a k lt) (there b k (omega arith)) in
+          place (get_or a k None) (get_or b k None) (get_or values k filler) held
+          ∙ ap (λ value. Ok (option_map number value)) (sym (at_column k (is_some (get_or a k None) && is_some (get_or b k None)) flags))
+          ∙ ap Ok (sym (get_or-map (option_map number) column k None None (omega (arith, long))))
