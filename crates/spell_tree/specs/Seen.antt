@@ -1,111 +1,96 @@
 -- What stands in a plan's tree, as the tables of written messages see it.
-use Rattle.std.specs.Prelude.{ℕ, List, [], ◌∷◌, map, if◌then◌else◌}
-use Rattle.std.specs.List.{flat_map}
-use Rattle.std.specs.Option.{option_to_list}
-use Rattle.pb_wire.specs.Records.{Varint, Bytes}
-use Rattle.pb_write.specs.Write.{record_bytes}
-use Rattle.plan_scan.specs.declared.shape.Shape.{Shape}
+use Rattle.std.specs.Prelude.{List, [], ◌∷◌, map}
 use Rattle.plan_scan.specs.declared.shape.Shape.TheVariants as s
-use Rattle.plan_spell.specs.Nodes.{Node}
-use Rattle.plan_spell.specs.Held.{Int32s, Int64s, Truths, PackedUint32s, PackedInt32s, Messages, Part, uint32, int32, truth, block, blocks, presence}
-use Rattle.spell_tree.specs.declared.part.MessagesRef.{MessagesRef}
-use Rattle.spell_tree.specs.declared.part.MessagesRef.TheVariants as m
-use Rattle.spell_tree.specs.declared.part.HeldRef.{HeldRef}
-use Rattle.spell_tree.specs.declared.part.HeldRef.TheVariants as h
-use Rattle.spell_tree.specs.declared.part.PartRef.{PartRef}
+use Rattle.plan_raw.specs.declared.expr.RawExpr.{RawExpr}
+use Rattle.plan_raw.specs.declared.rel.RawRel.{RawRel}
+use Rattle.plan_spell.specs.Held.{Messages, Part}
+use Rattle.plan_spell.specs.Parts.{parts_of}
+use Rattle.spell_leaves.specs.Seen.{Group, part_seen}
+use Rattle.spell_tree.specs.declared.part.ExprRole.{ExprRole}
+use Rattle.spell_tree.specs.declared.part.ExprRole.TheVariants as e
+use Rattle.spell_tree.specs.declared.part.RelRole.{RelRole}
+use Rattle.spell_tree.specs.declared.part.RelRole.TheVariants as r
+use Rattle.spell_tree.specs.declared.part.TreePart.{TreePart}
+use Rattle.spell_tree.specs.declared.part.TreePart.TheVariants as p
+use Rattle.spell_tree.specs.declared.part.TreesRef.{TreesRef}
+use Rattle.spell_tree.specs.declared.part.TreesRef.TheVariants as t
 
--- messages of a shape
-pub record Group : Type 0 where
-  pub shape : Shape
-  pub nodes : List (Node shape)
+-- relations, by the message that each is written as
+abbrev pub rels_seen : RelRole → List RawRel → Group
+rels_seen r.Rel rels = record { shape = s.Rel; nodes = rels }
+rels_seen r.Read rels = record { shape = s.ReadRel; nodes = rels }
+rels_seen r.Filter rels = record { shape = s.FilterRel; nodes = rels }
+rels_seen r.Fetch rels = record { shape = s.FetchRel; nodes = rels }
+rels_seen r.Aggregate rels = record { shape = s.AggregateRel; nodes = rels }
+rels_seen r.Sort rels = record { shape = s.SortRel; nodes = rels }
+rels_seen r.Join rels = record { shape = s.JoinRel; nodes = rels }
+rels_seen r.Project rels = record { shape = s.ProjectRel; nodes = rels }
+rels_seen r.Set rels = record { shape = s.SetRel; nodes = rels }
+rels_seen r.Cross rels = record { shape = s.CrossRel; nodes = rels }
+
+-- expressions, by the message that each is written as
+abbrev pub exprs_seen : ExprRole → List RawExpr → Group
+exprs_seen e.Expression exprs = record { shape = s.Expression; nodes = exprs }
+exprs_seen e.ScalarFunction exprs = record { shape = s.ScalarFunction; nodes = exprs }
+exprs_seen e.FieldReference exprs = record { shape = s.FieldReference; nodes = exprs }
+exprs_seen e.IfThen exprs = record { shape = s.IfThen; nodes = exprs }
+exprs_seen e.Switch exprs = record { shape = s.SwitchExpression; nodes = exprs }
+exprs_seen e.SingularOrList exprs = record { shape = s.SingularOrList; nodes = exprs }
+exprs_seen e.Cast exprs = record { shape = s.Cast; nodes = exprs }
+exprs_seen e.Subquery exprs = record { shape = s.Subquery; nodes = exprs }
+exprs_seen e.Scalar exprs = record { shape = s.ScalarSubquery; nodes = exprs }
+exprs_seen e.InPredicate exprs = record { shape = s.InPredicate; nodes = exprs }
+exprs_seen e.SetPredicate exprs = record { shape = s.SetPredicate; nodes = exprs }
 
 -- the messages of a field
-abbrev pub messages_seen : MessagesRef → Group
-messages_seen (m.Plan plan) = record { shape = s.Plan; nodes = plan.now ∷ [] }
-messages_seen (m.PlanRel roots) = record { shape = s.PlanRel; nodes = roots.now }
-messages_seen (m.RelRoot roots) = record { shape = s.RelRoot; nodes = roots.now }
-messages_seen (m.ExtensionUri uris) = record { shape = s.ExtensionUri; nodes = uris.now }
-messages_seen (m.ExtensionDeclaration functions) = record { shape = s.ExtensionDeclaration; nodes = functions.now }
-messages_seen (m.ExtensionFunction function) = record { shape = s.ExtensionFunction; nodes = function.now ∷ [] }
-messages_seen (m.Rel rels) = record { shape = s.Rel; nodes = rels.now }
-messages_seen (m.RelCommon commons) = record { shape = s.RelCommon; nodes = commons.now }
-messages_seen (m.Emit mapping) = record { shape = s.Emit; nodes = mapping.now ∷ [] }
-messages_seen (m.ReadRel rel) = record { shape = s.ReadRel; nodes = rel.now ∷ [] }
-messages_seen (m.NamedStruct schemas) = record { shape = s.NamedStruct; nodes = schemas.now }
-messages_seen (m.StructType structs) = record { shape = s.StructType; nodes = structs.now }
-messages_seen (m.TypeStruct types) = record { shape = s.StructType; nodes = record { types = types.now } ∷ [] }
-messages_seen (m.NamedTable tables) = record { shape = s.NamedTable; nodes = tables.now }
-messages_seen (m.VirtualTable tables) = record { shape = s.VirtualTable; nodes = tables.now }
-messages_seen (m.LiteralRow rows) = record { shape = s.LiteralRow; nodes = rows.now }
-messages_seen (m.ExpressionRow rows) = record { shape = s.ExpressionRow; nodes = rows.now }
-messages_seen (m.LocalFiles files) = record { shape = s.LocalFiles; nodes = files.now }
-messages_seen (m.FileItem items) = record { shape = s.FileItem; nodes = items.now }
-messages_seen (m.FilterRel rel) = record { shape = s.FilterRel; nodes = rel.now ∷ [] }
-messages_seen (m.FetchRel rel) = record { shape = s.FetchRel; nodes = rel.now ∷ [] }
-messages_seen (m.AggregateRel rel) = record { shape = s.AggregateRel; nodes = rel.now ∷ [] }
-messages_seen (m.Grouping groupings) = record { shape = s.Grouping; nodes = groupings.now }
-messages_seen (m.Measure measures) = record { shape = s.Measure; nodes = measures.now }
-messages_seen (m.AggregateFunction functions) = record { shape = s.AggregateFunction; nodes = functions.now }
-messages_seen (m.SortRel rel) = record { shape = s.SortRel; nodes = rel.now ∷ [] }
-messages_seen (m.SortField sorts) = record { shape = s.SortField; nodes = sorts.now }
-messages_seen (m.JoinRel rel) = record { shape = s.JoinRel; nodes = rel.now ∷ [] }
-messages_seen (m.ProjectRel rel) = record { shape = s.ProjectRel; nodes = rel.now ∷ [] }
-messages_seen (m.SetRel rel) = record { shape = s.SetRel; nodes = rel.now ∷ [] }
-messages_seen (m.CrossRel rel) = record { shape = s.CrossRel; nodes = rel.now ∷ [] }
-messages_seen (m.MaskExpression masks) = record { shape = s.MaskExpression; nodes = masks.now }
-messages_seen (m.StructSelect selects) = record { shape = s.StructSelect; nodes = selects.now }
-messages_seen (m.StructItem items) = record { shape = s.StructItem; nodes = items.now }
-messages_seen (m.Expression exprs) = record { shape = s.Expression; nodes = exprs.now }
-messages_seen (m.ScalarFunction expr) = record { shape = s.ScalarFunction; nodes = expr.now ∷ [] }
-messages_seen (m.FunctionArgument arguments) = record { shape = s.FunctionArgument; nodes = arguments.now }
-messages_seen (m.FunctionOption options) = record { shape = s.FunctionOption; nodes = options.now }
-messages_seen (m.FieldReference expr) = record { shape = s.FieldReference; nodes = expr.now ∷ [] }
-messages_seen (m.ReferenceSegment segments) = record { shape = s.ReferenceSegment; nodes = segments.now }
-messages_seen (m.StructField fields) = record { shape = s.StructField; nodes = fields.now }
-messages_seen (m.IfThen expr) = record { shape = s.IfThen; nodes = expr.now ∷ [] }
-messages_seen (m.IfClause clauses) = record { shape = s.IfClause; nodes = clauses.now }
-messages_seen (m.SwitchExpression expr) = record { shape = s.SwitchExpression; nodes = expr.now ∷ [] }
-messages_seen (m.IfValue values) = record { shape = s.IfValue; nodes = values.now }
-messages_seen (m.SingularOrList expr) = record { shape = s.SingularOrList; nodes = expr.now ∷ [] }
-messages_seen (m.Cast expr) = record { shape = s.Cast; nodes = expr.now ∷ [] }
-messages_seen (m.Literal literals) = record { shape = s.Literal; nodes = literals.now }
-messages_seen (m.DecimalLiteral literal) = record { shape = s.DecimalLiteral; nodes = literal.now ∷ [] }
-messages_seen (m.DataType types) = record { shape = s.DataType; nodes = types.now }
-messages_seen (m.PlainType nullability) = record { shape = s.PlainType; nodes = nullability ∷ [] }
-messages_seen (m.DecimalType ty) = record { shape = s.DecimalType; nodes = ty.now ∷ [] }
-messages_seen (m.Subquery expr) = record { shape = s.Subquery; nodes = expr.now ∷ [] }
-messages_seen (m.ScalarSubquery expr) = record { shape = s.ScalarSubquery; nodes = expr.now ∷ [] }
-messages_seen (m.InPredicate expr) = record { shape = s.InPredicate; nodes = expr.now ∷ [] }
-messages_seen (m.SetPredicate expr) = record { shape = s.SetPredicate; nodes = expr.now ∷ [] }
+abbrev pub trees_seen : TreesRef → Group
+trees_seen (t.Plan plan) = record { shape = s.Plan; nodes = plan.now ∷ [] }
+trees_seen (t.PlanRel roots) = record { shape = s.PlanRel; nodes = roots.now }
+trees_seen (t.RelRoot roots) = record { shape = s.RelRoot; nodes = roots.now }
+trees_seen (t.Rels role rels) = rels_seen role rels.now
+trees_seen (t.VirtualTable tables) = record { shape = s.VirtualTable; nodes = tables.now }
+trees_seen (t.ExpressionRow rows) = record { shape = s.ExpressionRow; nodes = rows.now }
+trees_seen (t.Grouping groupings) = record { shape = s.Grouping; nodes = groupings.now }
+trees_seen (t.Measure measures) = record { shape = s.Measure; nodes = measures.now }
+trees_seen (t.AggregateFunction functions) = record { shape = s.AggregateFunction; nodes = functions.now }
+trees_seen (t.SortField sorts) = record { shape = s.SortField; nodes = sorts.now }
+trees_seen (t.Exprs role exprs) = exprs_seen role exprs.now
+trees_seen (t.FunctionArgument arguments) = record { shape = s.FunctionArgument; nodes = arguments.now }
+trees_seen (t.IfClause clauses) = record { shape = s.IfClause; nodes = clauses.now }
+trees_seen (t.IfValue values) = record { shape = s.IfValue; nodes = values.now }
+
+-- the fields of a relation as one of its messages
+abbrev pub rel_parts_as : RelRole → RawRel → List Part
+rel_parts_as r.Rel rel = parts_of s.Rel rel
+rel_parts_as r.Read rel = parts_of s.ReadRel rel
+rel_parts_as r.Filter rel = parts_of s.FilterRel rel
+rel_parts_as r.Fetch rel = parts_of s.FetchRel rel
+rel_parts_as r.Aggregate rel = parts_of s.AggregateRel rel
+rel_parts_as r.Sort rel = parts_of s.SortRel rel
+rel_parts_as r.Join rel = parts_of s.JoinRel rel
+rel_parts_as r.Project rel = parts_of s.ProjectRel rel
+rel_parts_as r.Set rel = parts_of s.SetRel rel
+rel_parts_as r.Cross rel = parts_of s.CrossRel rel
+
+-- the fields of an expression as one of its messages
+abbrev pub expr_parts_as : ExprRole → RawExpr → List Part
+expr_parts_as e.Expression expr = parts_of s.Expression expr
+expr_parts_as e.ScalarFunction expr = parts_of s.ScalarFunction expr
+expr_parts_as e.FieldReference expr = parts_of s.FieldReference expr
+expr_parts_as e.IfThen expr = parts_of s.IfThen expr
+expr_parts_as e.Switch expr = parts_of s.SwitchExpression expr
+expr_parts_as e.SingularOrList expr = parts_of s.SingularOrList expr
+expr_parts_as e.Cast expr = parts_of s.Cast expr
+expr_parts_as e.Subquery expr = parts_of s.Subquery expr
+expr_parts_as e.Scalar expr = parts_of s.ScalarSubquery expr
+expr_parts_as e.InPredicate expr = parts_of s.InPredicate expr
+expr_parts_as e.SetPredicate expr = parts_of s.SetPredicate expr
 
 -- a field
-abbrev pub held_seen : ℕ → HeldRef → Part
-held_seen number (h.Uint32 value) = uint32 number value
-held_seen number (h.Int32 value) = int32 number value.now
-held_seen number (h.Truth value) = truth number value
-held_seen number (h.Block bytes) = block number bytes.now
-held_seen number (h.Int32Member value) = record { number = number; held = Int32s (value.now ∷ []) }
-held_seen number (h.Int64Member value) = record { number = number; held = Int64s (option_to_list value) }
-held_seen number (h.TruthMember value) = record { number = number; held = Truths (value ∷ []) }
-held_seen number (h.BlockMember bytes) = blocks number (bytes.now ∷ [])
-held_seen number (h.EmptyBlock is_there) = blocks number (if is_there then [] ∷ [] else [])
-held_seen number (h.PackedUint32s numbers) = record { number = number; held = PackedUint32s numbers.now }
-held_seen number (h.PackedInt32s numbers) = record { number = number; held = PackedInt32s numbers.now }
-held_seen number (h.Blocks values) = blocks number values.now
-held_seen number (h.Presence is_there) = presence number is_there
-held_seen number (h.Messages messages) = record { number = number; held = Messages (messages_seen messages).shape (messages_seen messages).nodes }
-
-abbrev pub part_seen : PartRef → Part
-part_seen part = held_seen part.number part.held
+abbrev pub tree_part_seen : TreePart → Part
+tree_part_seen (p.Leaf part) = part_seen part
+tree_part_seen (p.Trees number trees) = record { number = number; held = Messages (trees_seen trees).shape (trees_seen trees).nodes }
 
 -- the fields of a message
-abbrev pub parts_seen : List PartRef → List Part
-parts_seen parts = map part_seen parts
-
--- the bytes of the records of a field that holds numbers
-unfoldable pub varint_records : ℕ → List ℕ → List ℕ
-varint_records number values = flat_map (λ value. record_bytes (record { number = number; content = Varint value })) values
-
--- the bytes of the records of a field that holds blocks
-unfoldable pub block_records : ℕ → List (List ℕ) → List ℕ
-block_records number blocks = flat_map (λ block. record_bytes (record { number = number; content = Bytes block })) blocks
+abbrev pub tree_parts_seen : List TreePart → List Part
+tree_parts_seen parts = map tree_part_seen parts

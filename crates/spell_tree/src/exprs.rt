@@ -3,11 +3,14 @@ ghost use Rattle.std.specs.Prelude.{◌≡◌, IfOk};
 ghost use Rattle.plan_spell.specs.Exprs as tables;
 ghost use Rattle.plan_raw.specs.declared.argument.FunctionArgument.{out-FunctionArgument};
 ghost use Rattle.plan_raw.specs.declared.expr.RawExpr.{out-RawExpr};
-ghost use Rattle.spell_tree.specs.Seen.{parts_seen};
+ghost use Rattle.spell_tree.specs.Seen.{expr_parts_as, tree_parts_seen};
 
-use crate::fields::{block_member, boxed, messages, optional, presence, uint32};
-use crate::part::{HeldRef, MessagesRef, PartRef};
+use crate::part::{ExprRole, RelRole, TreePart, TreesRef};
 use plan_raw::{FunctionArgument, IfClause, IfValue, RawExpr};
+use spell_leaves::{
+    HeldRef, MessagesRef, PartRef, block_member, boxed, listed, messages, optional, presence,
+    uint32,
+};
 use std::alloc::Global;
 use std::slice;
 use sub_types::NoMemory;
@@ -16,51 +19,66 @@ use sub_types::NoMemory;
 pub(crate) fn argument_parts<'a>(
     alloc: Global,
     argument: &'a FunctionArgument,
-) -> Result<Vec<PartRef<'a>>, NoMemory>
-    ensures { IfOk result (λ parts. parts_seen parts.items ≡ tables.argument_parts (out-FunctionArgument argument.now)) }
+) -> Result<Vec<TreePart<'a>>, NoMemory>
+    ensures { IfOk result (λ parts. tree_parts_seen parts.items ≡ tables.argument_parts (out-FunctionArgument argument.now)) }
 {
     match argument {
         FunctionArgument::Missing => Ok(Vec::new(alloc)),
-        FunctionArgument::Enum(name) => Ok(vec![in alloc; block_member(1, name.bytes())]?),
+        FunctionArgument::Enum(name) => listed(
+            alloc,
+            [TreePart::Leaf(block_member(1, name.bytes()))],
+        ),
         FunctionArgument::TypeArgument(ty) => {
-            Ok(vec![in alloc; messages(2, MessagesRef::DataType(slice::from_ref(ty)))]?)
+            listed(
+                alloc,
+                [TreePart::Leaf(messages(2, MessagesRef::DataType(slice::from_ref(ty))))],
+            )
         }
         FunctionArgument::Value(value) => {
-            Ok(vec![in alloc; messages(3, MessagesRef::Expression(slice::from_ref(value)))]?)
+            listed(
+                alloc,
+                [TreePart::Trees(
+                    3,
+                    TreesRef::Exprs(ExprRole::Expression, slice::from_ref(value)),
+                )],
+            )
         }
     }
 }
 
 // FieldReference
-pub(crate) fn reference_parts<'a>(
-    alloc: Global,
-    expr: &'a RawExpr,
-) -> Result<Vec<PartRef<'a>>, NoMemory>
-    ensures { IfOk result (λ parts. parts_seen parts.items ≡ tables.reference_parts (out-RawExpr expr.now)) }
+fn reference_parts<'a>(alloc: Global, expr: &'a RawExpr) -> Result<Vec<TreePart<'a>>, NoMemory>
+    ensures { IfOk result (λ parts. tree_parts_seen parts.items ≡ tables.reference_parts (out-RawExpr expr.now)) }
 {
     match expr {
         RawExpr::Selection {
             direct_reference,
             root_reference,
             other,
-        } => Ok(vec![in alloc;
-            messages(1, MessagesRef::ReferenceSegment(optional(direct_reference))),
-            PartRef {
-                number: 2,
-                held: HeldRef::EmptyBlock(*other)
-            },
-            presence(4, *root_reference),
-        ]?),
+        } => listed(
+            alloc,
+            [
+                TreePart::Leaf(messages(
+                    1,
+                    MessagesRef::ReferenceSegment(optional(direct_reference)),
+                )),
+                TreePart::Leaf(PartRef {
+                    number: 2,
+                    held: HeldRef::EmptyBlock(*other),
+                }),
+                TreePart::Leaf(presence(4, *root_reference)),
+            ],
+        ),
         _ => Ok(Vec::new(alloc)),
     }
 }
 
 // Expression.ScalarFunction
-pub(crate) fn scalar_function_parts<'a>(
+fn scalar_function_parts<'a>(
     alloc: Global,
     expr: &'a RawExpr,
-) -> Result<Vec<PartRef<'a>>, NoMemory>
-    ensures { IfOk result (λ parts. parts_seen parts.items ≡ tables.scalar_function_parts (out-RawExpr expr.now)) }
+) -> Result<Vec<TreePart<'a>>, NoMemory>
+    ensures { IfOk result (λ parts. tree_parts_seen parts.items ≡ tables.scalar_function_parts (out-RawExpr expr.now)) }
 {
     match expr {
         RawExpr::ScalarFunction {
@@ -68,28 +86,31 @@ pub(crate) fn scalar_function_parts<'a>(
             output_type,
             arguments,
             options,
-        } => Ok(vec![in alloc;
-            uint32(1, *function_reference),
-            messages(3, MessagesRef::DataType(optional(output_type))),
-            messages(4, MessagesRef::FunctionArgument(arguments.as_slice())),
-            messages(5, MessagesRef::FunctionOption(options.as_slice())),
-        ]?),
+        } => listed(
+            alloc,
+            [
+                TreePart::Leaf(uint32(1, *function_reference)),
+                TreePart::Leaf(messages(3, MessagesRef::DataType(optional(output_type)))),
+                TreePart::Trees(4, TreesRef::FunctionArgument(arguments)),
+                TreePart::Leaf(messages(5, MessagesRef::FunctionOption(options.as_slice()))),
+            ],
+        ),
         _ => Ok(Vec::new(alloc)),
     }
 }
 
 // Expression.IfThen
-pub(crate) fn if_then_parts<'a>(
-    alloc: Global,
-    expr: &'a RawExpr,
-) -> Result<Vec<PartRef<'a>>, NoMemory>
-    ensures { IfOk result (λ parts. parts_seen parts.items ≡ tables.if_then_parts (out-RawExpr expr.now)) }
+fn if_then_parts<'a>(alloc: Global, expr: &'a RawExpr) -> Result<Vec<TreePart<'a>>, NoMemory>
+    ensures { IfOk result (λ parts. tree_parts_seen parts.items ≡ tables.if_then_parts (out-RawExpr expr.now)) }
 {
     match expr {
-        RawExpr::IfThen { ifs, else_ } => Ok(vec![in alloc;
-            messages(1, MessagesRef::IfClause(ifs.as_slice())),
-            messages(2, MessagesRef::Expression(boxed(else_))),
-        ]?),
+        RawExpr::IfThen { ifs, else_ } => listed(
+            alloc,
+            [
+                TreePart::Trees(1, TreesRef::IfClause(ifs)),
+                TreePart::Trees(2, TreesRef::Exprs(ExprRole::Expression, boxed(else_))),
+            ],
+        ),
         _ => Ok(Vec::new(alloc)),
     }
 }
@@ -98,28 +119,37 @@ pub(crate) fn if_then_parts<'a>(
 pub(crate) fn if_clause_parts<'a>(
     alloc: Global,
     clause: &'a IfClause,
-) -> Result<Vec<PartRef<'a>>, NoMemory>
-    ensures { IfOk result (λ parts. parts_seen parts.items ≡ tables.if_clause_parts clause.now) }
+) -> Result<Vec<TreePart<'a>>, NoMemory>
+    ensures { IfOk result (λ parts. tree_parts_seen parts.items ≡ tables.if_clause_parts clause.now) }
 {
-    Ok(vec![in alloc;
-        messages(1, MessagesRef::Expression(optional(&clause.if_))),
-        messages(2, MessagesRef::Expression(optional(&clause.then))),
-    ]?)
+    listed(
+        alloc,
+        [
+            TreePart::Trees(
+                1,
+                TreesRef::Exprs(ExprRole::Expression, optional(&clause.if_)),
+            ),
+            TreePart::Trees(
+                2,
+                TreesRef::Exprs(ExprRole::Expression, optional(&clause.then)),
+            ),
+        ],
+    )
 }
 
 // Expression.SwitchExpression
-pub(crate) fn switch_parts<'a>(
-    alloc: Global,
-    expr: &'a RawExpr,
-) -> Result<Vec<PartRef<'a>>, NoMemory>
-    ensures { IfOk result (λ parts. parts_seen parts.items ≡ tables.switch_parts (out-RawExpr expr.now)) }
+fn switch_parts<'a>(alloc: Global, expr: &'a RawExpr) -> Result<Vec<TreePart<'a>>, NoMemory>
+    ensures { IfOk result (λ parts. tree_parts_seen parts.items ≡ tables.switch_parts (out-RawExpr expr.now)) }
 {
     match expr {
-        RawExpr::SwitchExpression { ifs, else_, match_ } => Ok(vec![in alloc;
-            messages(1, MessagesRef::IfValue(ifs.as_slice())),
-            messages(2, MessagesRef::Expression(boxed(else_))),
-            messages(3, MessagesRef::Expression(boxed(match_))),
-        ]?),
+        RawExpr::SwitchExpression { ifs, else_, match_ } => listed(
+            alloc,
+            [
+                TreePart::Trees(1, TreesRef::IfValue(ifs)),
+                TreePart::Trees(2, TreesRef::Exprs(ExprRole::Expression, boxed(else_))),
+                TreePart::Trees(3, TreesRef::Exprs(ExprRole::Expression, boxed(match_))),
+            ],
+        ),
         _ => Ok(Vec::new(alloc)),
     }
 }
@@ -128,157 +158,220 @@ pub(crate) fn switch_parts<'a>(
 pub(crate) fn if_value_parts<'a>(
     alloc: Global,
     value: &'a IfValue,
-) -> Result<Vec<PartRef<'a>>, NoMemory>
-    ensures { IfOk result (λ parts. parts_seen parts.items ≡ tables.if_value_parts value.now) }
+) -> Result<Vec<TreePart<'a>>, NoMemory>
+    ensures { IfOk result (λ parts. tree_parts_seen parts.items ≡ tables.if_value_parts value.now) }
 {
-    Ok(vec![in alloc;
-        messages(1, MessagesRef::Literal(optional(&value.if_))),
-        messages(2, MessagesRef::Expression(optional(&value.then))),
-    ]?)
+    listed(
+        alloc,
+        [
+            TreePart::Leaf(messages(1, MessagesRef::Literal(optional(&value.if_)))),
+            TreePart::Trees(
+                2,
+                TreesRef::Exprs(ExprRole::Expression, optional(&value.then)),
+            ),
+        ],
+    )
 }
 
 // Expression.SingularOrList
-pub(crate) fn singular_or_list_parts<'a>(
+fn singular_or_list_parts<'a>(
     alloc: Global,
     expr: &'a RawExpr,
-) -> Result<Vec<PartRef<'a>>, NoMemory>
-    ensures { IfOk result (λ parts. parts_seen parts.items ≡ tables.singular_or_list_parts (out-RawExpr expr.now)) }
+) -> Result<Vec<TreePart<'a>>, NoMemory>
+    ensures { IfOk result (λ parts. tree_parts_seen parts.items ≡ tables.singular_or_list_parts (out-RawExpr expr.now)) }
 {
     match expr {
-        RawExpr::SingularOrList { value, options } => Ok(vec![in alloc;
-            messages(1, MessagesRef::Expression(boxed(value))),
-            messages(2, MessagesRef::Expression(options.as_slice())),
-        ]?),
+        RawExpr::SingularOrList { value, options } => listed(
+            alloc,
+            [
+                TreePart::Trees(1, TreesRef::Exprs(ExprRole::Expression, boxed(value))),
+                TreePart::Trees(2, TreesRef::Exprs(ExprRole::Expression, options.as_slice())),
+            ],
+        ),
         _ => Ok(Vec::new(alloc)),
     }
 }
 
 // Expression.Cast
-pub(crate) fn cast_parts<'a>(alloc: Global, expr: &'a RawExpr) -> Result<Vec<PartRef<'a>>, NoMemory>
-    ensures { IfOk result (λ parts. parts_seen parts.items ≡ tables.cast_parts (out-RawExpr expr.now)) }
+fn cast_parts<'a>(alloc: Global, expr: &'a RawExpr) -> Result<Vec<TreePart<'a>>, NoMemory>
+    ensures { IfOk result (λ parts. tree_parts_seen parts.items ≡ tables.cast_parts (out-RawExpr expr.now)) }
 {
     match expr {
         RawExpr::Cast {
             type_,
             input,
             failure_behavior,
-        } => Ok(vec![in alloc;
-            messages(1, MessagesRef::DataType(optional(type_))),
-            messages(2, MessagesRef::Expression(boxed(input))),
-            uint32(3, *failure_behavior),
-        ]?),
+        } => listed(
+            alloc,
+            [
+                TreePart::Leaf(messages(1, MessagesRef::DataType(optional(type_)))),
+                TreePart::Trees(2, TreesRef::Exprs(ExprRole::Expression, boxed(input))),
+                TreePart::Leaf(uint32(3, *failure_behavior)),
+            ],
+        ),
         _ => Ok(Vec::new(alloc)),
     }
 }
 
 // Expression.Subquery
-pub(crate) fn subquery_parts<'a>(
-    alloc: Global,
-    expr: &'a RawExpr,
-) -> Result<Vec<PartRef<'a>>, NoMemory>
-    ensures { IfOk result (λ parts. parts_seen parts.items ≡ tables.subquery_parts expr.now (out-RawExpr expr.now)) }
+fn subquery_parts<'a>(alloc: Global, expr: &'a RawExpr) -> Result<Vec<TreePart<'a>>, NoMemory>
+    ensures { IfOk result (λ parts. tree_parts_seen parts.items ≡ tables.subquery_parts expr.now (out-RawExpr expr.now)) }
 {
     match expr {
-        RawExpr::Scalar { .. } => Ok(vec![in alloc;
-            messages(1, MessagesRef::ScalarSubquery(expr)),
-        ]?),
-        RawExpr::InPredicate { .. } => Ok(vec![in alloc;
-            messages(2, MessagesRef::InPredicate(expr)),
-        ]?),
-        RawExpr::SetPredicate { .. } => Ok(vec![in alloc;
-            messages(3, MessagesRef::SetPredicate(expr)),
-        ]?),
-        RawExpr::SetComparison => Ok(vec![in alloc;
-            PartRef {
+        RawExpr::Scalar { .. } => listed(
+            alloc,
+            [TreePart::Trees(1, TreesRef::Exprs(ExprRole::Scalar, slice::from_ref(expr)))],
+        ),
+        RawExpr::InPredicate { .. } => listed(
+            alloc,
+            [TreePart::Trees(
+                2,
+                TreesRef::Exprs(ExprRole::InPredicate, slice::from_ref(expr)),
+            )],
+        ),
+        RawExpr::SetPredicate { .. } => listed(
+            alloc,
+            [TreePart::Trees(
+                3,
+                TreesRef::Exprs(ExprRole::SetPredicate, slice::from_ref(expr)),
+            )],
+        ),
+        RawExpr::SetComparison => listed(
+            alloc,
+            [TreePart::Leaf(PartRef {
                 number: 4,
-                held: HeldRef::EmptyBlock(true)
-            },
-        ]?),
+                held: HeldRef::EmptyBlock(true),
+            })],
+        ),
         _ => Ok(Vec::new(alloc)),
     }
 }
 
 // Expression.Subquery.Scalar
-pub(crate) fn scalar_parts<'a>(
-    alloc: Global,
-    expr: &'a RawExpr,
-) -> Result<Vec<PartRef<'a>>, NoMemory>
-    ensures { IfOk result (λ parts. parts_seen parts.items ≡ tables.scalar_parts (out-RawExpr expr.now)) }
+fn scalar_parts<'a>(alloc: Global, expr: &'a RawExpr) -> Result<Vec<TreePart<'a>>, NoMemory>
+    ensures { IfOk result (λ parts. tree_parts_seen parts.items ≡ tables.scalar_parts (out-RawExpr expr.now)) }
 {
     match expr {
-        RawExpr::Scalar { input } => Ok(vec![in alloc;
-            messages(1, MessagesRef::Rel(boxed(input))),
-        ]?),
+        RawExpr::Scalar { input } => listed(
+            alloc,
+            [TreePart::Trees(1, TreesRef::Rels(RelRole::Rel, boxed(input)))],
+        ),
         _ => Ok(Vec::new(alloc)),
     }
 }
 
 // Expression.Subquery.InPredicate
-pub(crate) fn in_predicate_parts<'a>(
-    alloc: Global,
-    expr: &'a RawExpr,
-) -> Result<Vec<PartRef<'a>>, NoMemory>
-    ensures { IfOk result (λ parts. parts_seen parts.items ≡ tables.in_predicate_parts (out-RawExpr expr.now)) }
+fn in_predicate_parts<'a>(alloc: Global, expr: &'a RawExpr) -> Result<Vec<TreePart<'a>>, NoMemory>
+    ensures { IfOk result (λ parts. tree_parts_seen parts.items ≡ tables.in_predicate_parts (out-RawExpr expr.now)) }
 {
     match expr {
-        RawExpr::InPredicate { needles, haystack } => Ok(vec![in alloc;
-            messages(1, MessagesRef::Expression(needles.as_slice())),
-            messages(2, MessagesRef::Rel(boxed(haystack))),
-        ]?),
+        RawExpr::InPredicate { needles, haystack } => listed(
+            alloc,
+            [
+                TreePart::Trees(1, TreesRef::Exprs(ExprRole::Expression, needles.as_slice())),
+                TreePart::Trees(2, TreesRef::Rels(RelRole::Rel, boxed(haystack))),
+            ],
+        ),
         _ => Ok(Vec::new(alloc)),
     }
 }
 
 // Expression.Subquery.SetPredicate
-pub(crate) fn set_predicate_parts<'a>(
-    alloc: Global,
-    expr: &'a RawExpr,
-) -> Result<Vec<PartRef<'a>>, NoMemory>
-    ensures { IfOk result (λ parts. parts_seen parts.items ≡ tables.set_predicate_parts (out-RawExpr expr.now)) }
+fn set_predicate_parts<'a>(alloc: Global, expr: &'a RawExpr) -> Result<Vec<TreePart<'a>>, NoMemory>
+    ensures { IfOk result (λ parts. tree_parts_seen parts.items ≡ tables.set_predicate_parts (out-RawExpr expr.now)) }
 {
     match expr {
         RawExpr::SetPredicate {
             predicate_op,
             tuples,
-        } => Ok(vec![in alloc;
-            uint32(1, *predicate_op),
-            messages(2, MessagesRef::Rel(boxed(tuples))),
-        ]?),
+        } => listed(
+            alloc,
+            [
+                TreePart::Leaf(uint32(1, *predicate_op)),
+                TreePart::Trees(2, TreesRef::Rels(RelRole::Rel, boxed(tuples))),
+            ],
+        ),
         _ => Ok(Vec::new(alloc)),
     }
 }
 
 // Expression
-pub(crate) fn expression_parts<'a>(
-    alloc: Global,
-    expr: &'a RawExpr,
-) -> Result<Vec<PartRef<'a>>, NoMemory>
-    ensures { IfOk result (λ parts. parts_seen parts.items ≡ tables.expression_parts expr.now (out-RawExpr expr.now)) }
+fn expression_parts<'a>(alloc: Global, expr: &'a RawExpr) -> Result<Vec<TreePart<'a>>, NoMemory>
+    ensures { IfOk result (λ parts. tree_parts_seen parts.items ≡ tables.expression_parts expr.now (out-RawExpr expr.now)) }
 {
     match expr {
         RawExpr::Missing | RawExpr::Unknown { .. } => Ok(Vec::new(alloc)),
-        RawExpr::Literal(literal) => Ok(vec![in alloc;
-            messages(1, MessagesRef::Literal(slice::from_ref(literal))),
-        ]?),
-        RawExpr::Selection { .. } => Ok(vec![in alloc;
-            messages(2, MessagesRef::FieldReference(expr)),
-        ]?),
-        RawExpr::ScalarFunction { .. } => Ok(vec![in alloc;
-            messages(3, MessagesRef::ScalarFunction(expr)),
-        ]?),
-        RawExpr::IfThen { .. } => Ok(vec![in alloc; messages(6, MessagesRef::IfThen(expr))]?),
-        RawExpr::SwitchExpression { .. } => Ok(vec![in alloc;
-            messages(7, MessagesRef::SwitchExpression(expr)),
-        ]?),
-        RawExpr::SingularOrList { .. } => Ok(vec![in alloc;
-            messages(8, MessagesRef::SingularOrList(expr)),
-        ]?),
-        RawExpr::Cast { .. } => Ok(vec![in alloc; messages(11, MessagesRef::Cast(expr))]?),
+        RawExpr::Literal(literal) => listed(
+            alloc,
+            [TreePart::Leaf(messages(1, MessagesRef::Literal(slice::from_ref(literal))))],
+        ),
+        RawExpr::Selection { .. } => listed(
+            alloc,
+            [TreePart::Trees(
+                2,
+                TreesRef::Exprs(ExprRole::FieldReference, slice::from_ref(expr)),
+            )],
+        ),
+        RawExpr::ScalarFunction { .. } => listed(
+            alloc,
+            [TreePart::Trees(
+                3,
+                TreesRef::Exprs(ExprRole::ScalarFunction, slice::from_ref(expr)),
+            )],
+        ),
+        RawExpr::IfThen { .. } => listed(
+            alloc,
+            [TreePart::Trees(6, TreesRef::Exprs(ExprRole::IfThen, slice::from_ref(expr)))],
+        ),
+        RawExpr::SwitchExpression { .. } => listed(
+            alloc,
+            [TreePart::Trees(7, TreesRef::Exprs(ExprRole::Switch, slice::from_ref(expr)))],
+        ),
+        RawExpr::SingularOrList { .. } => listed(
+            alloc,
+            [TreePart::Trees(
+                8,
+                TreesRef::Exprs(ExprRole::SingularOrList, slice::from_ref(expr)),
+            )],
+        ),
+        RawExpr::Cast { .. } => listed(
+            alloc,
+            [TreePart::Trees(11, TreesRef::Exprs(ExprRole::Cast, slice::from_ref(expr)))],
+        ),
         RawExpr::SubqueryMissing
         | RawExpr::SubqueryUnknown { .. }
         | RawExpr::Scalar { .. }
         | RawExpr::InPredicate { .. }
         | RawExpr::SetPredicate { .. }
-        | RawExpr::SetComparison => Ok(vec![in alloc; messages(12, MessagesRef::Subquery(expr))]?),
+        | RawExpr::SetComparison => listed(
+            alloc,
+            [TreePart::Trees(
+                12,
+                TreesRef::Exprs(ExprRole::Subquery, slice::from_ref(expr)),
+            )],
+        ),
+    }
+}
+
+// an expression as one of its messages
+pub(crate) fn parts_as<'a>(
+    alloc: Global,
+    role: ExprRole,
+    expr: &'a RawExpr,
+) -> Result<Vec<TreePart<'a>>, NoMemory>
+    ensures { IfOk result (λ parts. tree_parts_seen parts.items ≡ expr_parts_as role expr.now) }
+{
+    match role {
+        ExprRole::Expression => expression_parts(alloc, expr),
+        ExprRole::ScalarFunction => scalar_function_parts(alloc, expr),
+        ExprRole::FieldReference => reference_parts(alloc, expr),
+        ExprRole::IfThen => if_then_parts(alloc, expr),
+        ExprRole::Switch => switch_parts(alloc, expr),
+        ExprRole::SingularOrList => singular_or_list_parts(alloc, expr),
+        ExprRole::Cast => cast_parts(alloc, expr),
+        ExprRole::Subquery => subquery_parts(alloc, expr),
+        ExprRole::Scalar => scalar_parts(alloc, expr),
+        ExprRole::InPredicate => in_predicate_parts(alloc, expr),
+        ExprRole::SetPredicate => set_predicate_parts(alloc, expr),
     }
 }

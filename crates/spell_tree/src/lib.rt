@@ -1,9 +1,7 @@
-//! A plan's tree written into its bytes, which `plan_spell` defines. It stands on `plan_spell` and `pb_write`.
+//! A plan's tree written into its bytes, which `plan_spell` defines. It stands on `spell_leaves` and `pb_write`.
 #![tactic(auto)]
 
 mod exprs;
-mod fields;
-mod leaves;
 mod part;
 mod parts;
 mod rels;

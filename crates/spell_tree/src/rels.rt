@@ -7,14 +7,16 @@ ghost use Rattle.plan_raw.specs.declared.rel.RawCount.{out-RawCount};
 ghost use Rattle.plan_raw.specs.declared.rel.RawOffset.{out-RawOffset};
 ghost use Rattle.plan_raw.specs.declared.rel.RawRel.{out-RawRel};
 ghost use Rattle.plan_raw.specs.declared.source.RawSource.{out-RawSource};
-ghost use Rattle.spell_tree.specs.Seen.{parts_seen};
+ghost use Rattle.spell_tree.specs.Seen.{rel_parts_as, tree_parts_seen};
 
-use crate::fields::{blocks, boxed, messages, optional, uint32};
-use crate::part::{HeldRef, MessagesRef, PartRef};
+use crate::part::{ExprRole, RelRole, TreePart, TreesRef};
 use plan_leaves::{LocalFiles, NamedTable};
 use plan_raw::{
     AggregateFunction, ExprRow, Grouping, Measure, PlanTree, RawCount, RawExpr, RawOffset, RawRel,
     RawSource, RootDecl, SortField, VirtualTable,
+};
+use spell_leaves::{
+    HeldRef, MessagesRef, PartRef, blocks, boxed, listed, messages, optional, uint32,
 };
 use std::alloc::Global;
 use std::slice;
@@ -24,23 +26,32 @@ use sub_types::NoMemory;
 pub(crate) fn virtual_table_parts<'a>(
     alloc: Global,
     table: &'a VirtualTable,
-) -> Result<Vec<PartRef<'a>>, NoMemory>
-    ensures { IfOk result (λ parts. parts_seen parts.items ≡ tables.virtual_table_parts table.now) }
+) -> Result<Vec<TreePart<'a>>, NoMemory>
+    ensures { IfOk result (λ parts. tree_parts_seen parts.items ≡ tables.virtual_table_parts table.now) }
 {
-    Ok(vec![in alloc;
-        messages(1, MessagesRef::LiteralRow(table.values.as_slice())),
-        messages(2, MessagesRef::ExpressionRow(table.expressions.as_slice())),
-    ]?)
+    listed(
+        alloc,
+        [
+            TreePart::Leaf(messages(1, MessagesRef::LiteralRow(table.values.as_slice()))),
+            TreePart::Trees(2, TreesRef::ExpressionRow(table.expressions.as_slice())),
+        ],
+    )
 }
 
 // its rows of expressions
 pub(crate) fn expression_row_parts<'a>(
     alloc: Global,
     row: &'a ExprRow,
-) -> Result<Vec<PartRef<'a>>, NoMemory>
-    ensures { IfOk result (λ parts. parts_seen parts.items ≡ tables.expression_row_parts row.now) }
+) -> Result<Vec<TreePart<'a>>, NoMemory>
+    ensures { IfOk result (λ parts. tree_parts_seen parts.items ≡ tables.expression_row_parts row.now) }
 {
-    Ok(vec![in alloc; messages(1, MessagesRef::Expression(row.fields.as_slice()))]?)
+    listed(
+        alloc,
+        [TreePart::Trees(
+            1,
+            TreesRef::Exprs(ExprRole::Expression, row.fields.as_slice()),
+        )],
+    )
 }
 
 // the members of a ReadRel's oneof
@@ -72,8 +83,8 @@ fn named_tables(source: &RawSource) -> &[NamedTable]
 }
 
 // ReadRel
-pub(crate) fn read_parts<'a>(alloc: Global, rel: &'a RawRel) -> Result<Vec<PartRef<'a>>, NoMemory>
-    ensures { IfOk result (λ parts. parts_seen parts.items ≡ tables.read_parts (out-RawRel rel.now)) }
+fn read_parts<'a>(alloc: Global, rel: &'a RawRel) -> Result<Vec<TreePart<'a>>, NoMemory>
+    ensures { IfOk result (λ parts. tree_parts_seen parts.items ≡ tables.read_parts (out-RawRel rel.now)) }
 {
     match rel {
         RawRel::Read {
@@ -83,34 +94,43 @@ pub(crate) fn read_parts<'a>(alloc: Global, rel: &'a RawRel) -> Result<Vec<PartR
             projection,
             source,
             best_effort_filter,
-        } => Ok(vec![in alloc;
-            messages(1, MessagesRef::RelCommon(optional(common))),
-            messages(2, MessagesRef::NamedStruct(optional(base_schema))),
-            messages(3, MessagesRef::Expression(boxed(filter))),
-            messages(4, MessagesRef::MaskExpression(optional(projection))),
-            messages(5, MessagesRef::VirtualTable(virtual_tables(source))),
-            messages(6, MessagesRef::LocalFiles(local_files(source))),
-            messages(7, MessagesRef::NamedTable(named_tables(source))),
-            messages(11, MessagesRef::Expression(boxed(best_effort_filter))),
-        ]?),
+        } => listed(
+            alloc,
+            [
+                TreePart::Leaf(messages(1, MessagesRef::RelCommon(optional(common)))),
+                TreePart::Leaf(messages(2, MessagesRef::NamedStruct(optional(base_schema)))),
+                TreePart::Trees(3, TreesRef::Exprs(ExprRole::Expression, boxed(filter))),
+                TreePart::Leaf(messages(4, MessagesRef::MaskExpression(optional(projection)))),
+                TreePart::Trees(5, TreesRef::VirtualTable(virtual_tables(source))),
+                TreePart::Leaf(messages(6, MessagesRef::LocalFiles(local_files(source)))),
+                TreePart::Leaf(messages(7, MessagesRef::NamedTable(named_tables(source)))),
+                TreePart::Trees(
+                    11,
+                    TreesRef::Exprs(ExprRole::Expression, boxed(best_effort_filter)),
+                ),
+            ],
+        ),
         _ => Ok(Vec::new(alloc)),
     }
 }
 
 // FilterRel
-pub(crate) fn filter_parts<'a>(alloc: Global, rel: &'a RawRel) -> Result<Vec<PartRef<'a>>, NoMemory>
-    ensures { IfOk result (λ parts. parts_seen parts.items ≡ tables.filter_parts (out-RawRel rel.now)) }
+fn filter_parts<'a>(alloc: Global, rel: &'a RawRel) -> Result<Vec<TreePart<'a>>, NoMemory>
+    ensures { IfOk result (λ parts. tree_parts_seen parts.items ≡ tables.filter_parts (out-RawRel rel.now)) }
 {
     match rel {
         RawRel::Filter {
             common,
             input,
             condition,
-        } => Ok(vec![in alloc;
-            messages(1, MessagesRef::RelCommon(optional(common))),
-            messages(2, MessagesRef::Rel(boxed(input))),
-            messages(3, MessagesRef::Expression(boxed(condition))),
-        ]?),
+        } => listed(
+            alloc,
+            [
+                TreePart::Leaf(messages(1, MessagesRef::RelCommon(optional(common)))),
+                TreePart::Trees(2, TreesRef::Rels(RelRole::Rel, boxed(input))),
+                TreePart::Trees(3, TreesRef::Exprs(ExprRole::Expression, boxed(condition))),
+            ],
+        ),
         _ => Ok(Vec::new(alloc)),
     }
 }
@@ -153,8 +173,8 @@ fn count_exprs(count: &RawCount) -> &[RawExpr]
 }
 
 // FetchRel
-pub(crate) fn fetch_parts<'a>(alloc: Global, rel: &'a RawRel) -> Result<Vec<PartRef<'a>>, NoMemory>
-    ensures { IfOk result (λ parts. parts_seen parts.items ≡ tables.fetch_parts (out-RawRel rel.now)) }
+fn fetch_parts<'a>(alloc: Global, rel: &'a RawRel) -> Result<Vec<TreePart<'a>>, NoMemory>
+    ensures { IfOk result (λ parts. tree_parts_seen parts.items ≡ tables.fetch_parts (out-RawRel rel.now)) }
 {
     match rel {
         RawRel::Fetch {
@@ -162,30 +182,33 @@ pub(crate) fn fetch_parts<'a>(alloc: Global, rel: &'a RawRel) -> Result<Vec<Part
             input,
             offset,
             count,
-        } => Ok(vec![in alloc;
-            messages(1, MessagesRef::RelCommon(optional(common))),
-            messages(2, MessagesRef::Rel(boxed(input))),
-            PartRef {
-                number: 3,
-                held: HeldRef::Int64Member(offset_number(offset))
-            },
-            PartRef {
-                number: 4,
-                held: HeldRef::Int64Member(count_number(count))
-            },
-            messages(5, MessagesRef::Expression(offset_exprs(offset))),
-            messages(6, MessagesRef::Expression(count_exprs(count))),
-        ]?),
+        } => listed(
+            alloc,
+            [
+                TreePart::Leaf(messages(1, MessagesRef::RelCommon(optional(common)))),
+                TreePart::Trees(2, TreesRef::Rels(RelRole::Rel, boxed(input))),
+                TreePart::Leaf(PartRef {
+                    number: 3,
+                    held: HeldRef::Int64Member(offset_number(offset)),
+                }),
+                TreePart::Leaf(PartRef {
+                    number: 4,
+                    held: HeldRef::Int64Member(count_number(count)),
+                }),
+                TreePart::Trees(
+                    5,
+                    TreesRef::Exprs(ExprRole::Expression, offset_exprs(offset)),
+                ),
+                TreePart::Trees(6, TreesRef::Exprs(ExprRole::Expression, count_exprs(count))),
+            ],
+        ),
         _ => Ok(Vec::new(alloc)),
     }
 }
 
 // AggregateRel
-pub(crate) fn aggregate_parts<'a>(
-    alloc: Global,
-    rel: &'a RawRel,
-) -> Result<Vec<PartRef<'a>>, NoMemory>
-    ensures { IfOk result (λ parts. parts_seen parts.items ≡ tables.aggregate_parts (out-RawRel rel.now)) }
+fn aggregate_parts<'a>(alloc: Global, rel: &'a RawRel) -> Result<Vec<TreePart<'a>>, NoMemory>
+    ensures { IfOk result (λ parts. tree_parts_seen parts.items ≡ tables.aggregate_parts (out-RawRel rel.now)) }
 {
     match rel {
         RawRel::Aggregate {
@@ -194,13 +217,19 @@ pub(crate) fn aggregate_parts<'a>(
             groupings,
             measures,
             grouping_expressions,
-        } => Ok(vec![in alloc;
-            messages(1, MessagesRef::RelCommon(optional(common))),
-            messages(2, MessagesRef::Rel(boxed(input))),
-            messages(3, MessagesRef::Grouping(groupings.as_slice())),
-            messages(4, MessagesRef::Measure(measures.as_slice())),
-            messages(5, MessagesRef::Expression(grouping_expressions.as_slice())),
-        ]?),
+        } => listed(
+            alloc,
+            [
+                TreePart::Leaf(messages(1, MessagesRef::RelCommon(optional(common)))),
+                TreePart::Trees(2, TreesRef::Rels(RelRole::Rel, boxed(input))),
+                TreePart::Trees(3, TreesRef::Grouping(groupings)),
+                TreePart::Trees(4, TreesRef::Measure(measures)),
+                TreePart::Trees(
+                    5,
+                    TreesRef::Exprs(ExprRole::Expression, grouping_expressions.as_slice()),
+                ),
+            ],
+        ),
         _ => Ok(Vec::new(alloc)),
     }
 }
@@ -209,92 +238,110 @@ pub(crate) fn aggregate_parts<'a>(
 pub(crate) fn grouping_parts<'a>(
     alloc: Global,
     grouping: &'a Grouping,
-) -> Result<Vec<PartRef<'a>>, NoMemory>
-    ensures { IfOk result (λ parts. parts_seen parts.items ≡ tables.grouping_parts grouping.now) }
+) -> Result<Vec<TreePart<'a>>, NoMemory>
+    ensures { IfOk result (λ parts. tree_parts_seen parts.items ≡ tables.grouping_parts grouping.now) }
 {
-    Ok(vec![in alloc;
-        messages(
-            1,
-            MessagesRef::Expression(grouping.grouping_expressions.as_slice())
-        ),
-        PartRef {
-            number: 2,
-            held: HeldRef::PackedUint32s(grouping.expression_references.as_slice())
-        },
-    ]?)
+    listed(
+        alloc,
+        [
+            TreePart::Trees(
+                1,
+                TreesRef::Exprs(
+                    ExprRole::Expression,
+                    grouping.grouping_expressions.as_slice(),
+                ),
+            ),
+            TreePart::Leaf(PartRef {
+                number: 2,
+                held: HeldRef::PackedUint32s(grouping.expression_references.as_slice()),
+            }),
+        ],
+    )
 }
 
 // its Measure
 pub(crate) fn measure_parts<'a>(
     alloc: Global,
     measure: &'a Measure,
-) -> Result<Vec<PartRef<'a>>, NoMemory>
-    ensures { IfOk result (λ parts. parts_seen parts.items ≡ tables.measure_parts measure.now) }
+) -> Result<Vec<TreePart<'a>>, NoMemory>
+    ensures { IfOk result (λ parts. tree_parts_seen parts.items ≡ tables.measure_parts measure.now) }
 {
-    Ok(vec![in alloc;
-        messages(
-            1,
-            MessagesRef::AggregateFunction(optional(&measure.measure))
-        ),
-        messages(2, MessagesRef::Expression(optional(&measure.filter))),
-    ]?)
+    listed(
+        alloc,
+        [
+            TreePart::Trees(1, TreesRef::AggregateFunction(optional(&measure.measure))),
+            TreePart::Trees(
+                2,
+                TreesRef::Exprs(ExprRole::Expression, optional(&measure.filter)),
+            ),
+        ],
+    )
 }
 
 // AggregateFunction
 pub(crate) fn aggregate_function_parts<'a>(
     alloc: Global,
     function: &'a AggregateFunction,
-) -> Result<Vec<PartRef<'a>>, NoMemory>
-    ensures { IfOk result (λ parts. parts_seen parts.items ≡ tables.aggregate_function_parts (out-AggregateFunction function.now)) }
+) -> Result<Vec<TreePart<'a>>, NoMemory>
+    ensures { IfOk result (λ parts. tree_parts_seen parts.items ≡ tables.aggregate_function_parts (out-AggregateFunction function.now)) }
 {
-    Ok(vec![in alloc;
-        uint32(1, function.function_reference),
-        messages(3, MessagesRef::SortField(function.sorts.as_slice())),
-        uint32(4, function.phase),
-        messages(5, MessagesRef::DataType(optional(&function.output_type))),
-        uint32(6, function.invocation),
-        messages(
-            7,
-            MessagesRef::FunctionArgument(function.arguments.as_slice())
-        ),
-        messages(8, MessagesRef::FunctionOption(function.options.as_slice())),
-    ]?)
+    listed(
+        alloc,
+        [
+            TreePart::Leaf(uint32(1, function.function_reference)),
+            TreePart::Trees(3, TreesRef::SortField(&function.sorts)),
+            TreePart::Leaf(uint32(4, function.phase)),
+            TreePart::Leaf(messages(5, MessagesRef::DataType(optional(&function.output_type)))),
+            TreePart::Leaf(uint32(6, function.invocation)),
+            TreePart::Trees(7, TreesRef::FunctionArgument(&function.arguments)),
+            TreePart::Leaf(messages(8, MessagesRef::FunctionOption(function.options.as_slice()))),
+        ],
+    )
 }
 
 // SortField
 pub(crate) fn sort_field_parts<'a>(
     alloc: Global,
     sort: &'a SortField,
-) -> Result<Vec<PartRef<'a>>, NoMemory>
-    ensures { IfOk result (λ parts. parts_seen parts.items ≡ tables.sort_field_parts sort.now) }
+) -> Result<Vec<TreePart<'a>>, NoMemory>
+    ensures { IfOk result (λ parts. tree_parts_seen parts.items ≡ tables.sort_field_parts sort.now) }
 {
-    Ok(vec![in alloc;
-        messages(1, MessagesRef::Expression(optional(&sort.expr))),
-        uint32(2, sort.direction),
-    ]?)
+    listed(
+        alloc,
+        [
+            TreePart::Trees(
+                1,
+                TreesRef::Exprs(ExprRole::Expression, optional(&sort.expr)),
+            ),
+            TreePart::Leaf(uint32(2, sort.direction)),
+        ],
+    )
 }
 
 // SortRel
-pub(crate) fn sort_parts<'a>(alloc: Global, rel: &'a RawRel) -> Result<Vec<PartRef<'a>>, NoMemory>
-    ensures { IfOk result (λ parts. parts_seen parts.items ≡ tables.sort_parts (out-RawRel rel.now)) }
+fn sort_parts<'a>(alloc: Global, rel: &'a RawRel) -> Result<Vec<TreePart<'a>>, NoMemory>
+    ensures { IfOk result (λ parts. tree_parts_seen parts.items ≡ tables.sort_parts (out-RawRel rel.now)) }
 {
     match rel {
         RawRel::Sort {
             common,
             input,
             sorts,
-        } => Ok(vec![in alloc;
-            messages(1, MessagesRef::RelCommon(optional(common))),
-            messages(2, MessagesRef::Rel(boxed(input))),
-            messages(3, MessagesRef::SortField(sorts.as_slice())),
-        ]?),
+        } => listed(
+            alloc,
+            [
+                TreePart::Leaf(messages(1, MessagesRef::RelCommon(optional(common)))),
+                TreePart::Trees(2, TreesRef::Rels(RelRole::Rel, boxed(input))),
+                TreePart::Trees(3, TreesRef::SortField(sorts)),
+            ],
+        ),
         _ => Ok(Vec::new(alloc)),
     }
 }
 
 // JoinRel
-pub(crate) fn join_parts<'a>(alloc: Global, rel: &'a RawRel) -> Result<Vec<PartRef<'a>>, NoMemory>
-    ensures { IfOk result (λ parts. parts_seen parts.items ≡ tables.join_parts (out-RawRel rel.now)) }
+fn join_parts<'a>(alloc: Global, rel: &'a RawRel) -> Result<Vec<TreePart<'a>>, NoMemory>
+    ensures { IfOk result (λ parts. tree_parts_seen parts.items ≡ tables.join_parts (out-RawRel rel.now)) }
 {
     match rel {
         RawRel::Join {
@@ -304,88 +351,150 @@ pub(crate) fn join_parts<'a>(alloc: Global, rel: &'a RawRel) -> Result<Vec<PartR
             expression,
             post_join_filter,
             type_,
-        } => Ok(vec![in alloc;
-            messages(1, MessagesRef::RelCommon(optional(common))),
-            messages(2, MessagesRef::Rel(boxed(left))),
-            messages(3, MessagesRef::Rel(boxed(right))),
-            messages(4, MessagesRef::Expression(boxed(expression))),
-            messages(5, MessagesRef::Expression(boxed(post_join_filter))),
-            uint32(6, *type_),
-        ]?),
+        } => listed(
+            alloc,
+            [
+                TreePart::Leaf(messages(1, MessagesRef::RelCommon(optional(common)))),
+                TreePart::Trees(2, TreesRef::Rels(RelRole::Rel, boxed(left))),
+                TreePart::Trees(3, TreesRef::Rels(RelRole::Rel, boxed(right))),
+                TreePart::Trees(4, TreesRef::Exprs(ExprRole::Expression, boxed(expression))),
+                TreePart::Trees(
+                    5,
+                    TreesRef::Exprs(ExprRole::Expression, boxed(post_join_filter)),
+                ),
+                TreePart::Leaf(uint32(6, *type_)),
+            ],
+        ),
         _ => Ok(Vec::new(alloc)),
     }
 }
 
 // ProjectRel
-pub(crate) fn project_parts<'a>(
-    alloc: Global,
-    rel: &'a RawRel,
-) -> Result<Vec<PartRef<'a>>, NoMemory>
-    ensures { IfOk result (λ parts. parts_seen parts.items ≡ tables.project_parts (out-RawRel rel.now)) }
+fn project_parts<'a>(alloc: Global, rel: &'a RawRel) -> Result<Vec<TreePart<'a>>, NoMemory>
+    ensures { IfOk result (λ parts. tree_parts_seen parts.items ≡ tables.project_parts (out-RawRel rel.now)) }
 {
     match rel {
         RawRel::Project {
             common,
             input,
             expressions,
-        } => Ok(vec![in alloc;
-            messages(1, MessagesRef::RelCommon(optional(common))),
-            messages(2, MessagesRef::Rel(boxed(input))),
-            messages(3, MessagesRef::Expression(expressions.as_slice())),
-        ]?),
+        } => listed(
+            alloc,
+            [
+                TreePart::Leaf(messages(1, MessagesRef::RelCommon(optional(common)))),
+                TreePart::Trees(2, TreesRef::Rels(RelRole::Rel, boxed(input))),
+                TreePart::Trees(
+                    3,
+                    TreesRef::Exprs(ExprRole::Expression, expressions.as_slice()),
+                ),
+            ],
+        ),
         _ => Ok(Vec::new(alloc)),
     }
 }
 
 // SetRel
-pub(crate) fn set_parts<'a>(alloc: Global, rel: &'a RawRel) -> Result<Vec<PartRef<'a>>, NoMemory>
-    ensures { IfOk result (λ parts. parts_seen parts.items ≡ tables.set_parts (out-RawRel rel.now)) }
+fn set_parts<'a>(alloc: Global, rel: &'a RawRel) -> Result<Vec<TreePart<'a>>, NoMemory>
+    ensures { IfOk result (λ parts. tree_parts_seen parts.items ≡ tables.set_parts (out-RawRel rel.now)) }
 {
     match rel {
-        RawRel::Set { common, inputs, op } => Ok(vec![in alloc;
-            messages(1, MessagesRef::RelCommon(optional(common))),
-            messages(2, MessagesRef::Rel(inputs.as_slice())),
-            uint32(3, *op),
-        ]?),
+        RawRel::Set { common, inputs, op } => listed(
+            alloc,
+            [
+                TreePart::Leaf(messages(1, MessagesRef::RelCommon(optional(common)))),
+                TreePart::Trees(2, TreesRef::Rels(RelRole::Rel, inputs.as_slice())),
+                TreePart::Leaf(uint32(3, *op)),
+            ],
+        ),
         _ => Ok(Vec::new(alloc)),
     }
 }
 
 // CrossRel
-pub(crate) fn cross_parts<'a>(alloc: Global, rel: &'a RawRel) -> Result<Vec<PartRef<'a>>, NoMemory>
-    ensures { IfOk result (λ parts. parts_seen parts.items ≡ tables.cross_parts (out-RawRel rel.now)) }
+fn cross_parts<'a>(alloc: Global, rel: &'a RawRel) -> Result<Vec<TreePart<'a>>, NoMemory>
+    ensures { IfOk result (λ parts. tree_parts_seen parts.items ≡ tables.cross_parts (out-RawRel rel.now)) }
 {
     match rel {
         RawRel::Cross {
             common,
             left,
             right,
-        } => Ok(vec![in alloc;
-            messages(1, MessagesRef::RelCommon(optional(common))),
-            messages(2, MessagesRef::Rel(boxed(left))),
-            messages(3, MessagesRef::Rel(boxed(right))),
-        ]?),
+        } => listed(
+            alloc,
+            [
+                TreePart::Leaf(messages(1, MessagesRef::RelCommon(optional(common)))),
+                TreePart::Trees(2, TreesRef::Rels(RelRole::Rel, boxed(left))),
+                TreePart::Trees(3, TreesRef::Rels(RelRole::Rel, boxed(right))),
+            ],
+        ),
         _ => Ok(Vec::new(alloc)),
     }
 }
 
 // Rel
-pub(crate) fn rel_parts<'a>(alloc: Global, rel: &'a RawRel) -> Result<Vec<PartRef<'a>>, NoMemory>
-    ensures { IfOk result (λ parts. parts_seen parts.items ≡ tables.rel_parts rel.now (out-RawRel rel.now)) }
+fn rel_parts<'a>(alloc: Global, rel: &'a RawRel) -> Result<Vec<TreePart<'a>>, NoMemory>
+    ensures { IfOk result (λ parts. tree_parts_seen parts.items ≡ tables.rel_parts rel.now (out-RawRel rel.now)) }
 {
     match rel {
         RawRel::Missing | RawRel::Unknown { .. } => Ok(Vec::new(alloc)),
-        RawRel::Read { .. } => Ok(vec![in alloc; messages(1, MessagesRef::ReadRel(rel))]?),
-        RawRel::Filter { .. } => Ok(vec![in alloc; messages(2, MessagesRef::FilterRel(rel))]?),
-        RawRel::Fetch { .. } => Ok(vec![in alloc; messages(3, MessagesRef::FetchRel(rel))]?),
-        RawRel::Aggregate { .. } => Ok(vec![in alloc;
-            messages(4, MessagesRef::AggregateRel(rel)),
-        ]?),
-        RawRel::Sort { .. } => Ok(vec![in alloc; messages(5, MessagesRef::SortRel(rel))]?),
-        RawRel::Join { .. } => Ok(vec![in alloc; messages(6, MessagesRef::JoinRel(rel))]?),
-        RawRel::Project { .. } => Ok(vec![in alloc; messages(7, MessagesRef::ProjectRel(rel))]?),
-        RawRel::Set { .. } => Ok(vec![in alloc; messages(8, MessagesRef::SetRel(rel))]?),
-        RawRel::Cross { .. } => Ok(vec![in alloc; messages(12, MessagesRef::CrossRel(rel))]?),
+        RawRel::Read { .. } => listed(
+            alloc,
+            [TreePart::Trees(1, TreesRef::Rels(RelRole::Read, slice::from_ref(rel)))],
+        ),
+        RawRel::Filter { .. } => listed(
+            alloc,
+            [TreePart::Trees(2, TreesRef::Rels(RelRole::Filter, slice::from_ref(rel)))],
+        ),
+        RawRel::Fetch { .. } => listed(
+            alloc,
+            [TreePart::Trees(3, TreesRef::Rels(RelRole::Fetch, slice::from_ref(rel)))],
+        ),
+        RawRel::Aggregate { .. } => listed(
+            alloc,
+            [TreePart::Trees(4, TreesRef::Rels(RelRole::Aggregate, slice::from_ref(rel)))],
+        ),
+        RawRel::Sort { .. } => listed(
+            alloc,
+            [TreePart::Trees(5, TreesRef::Rels(RelRole::Sort, slice::from_ref(rel)))],
+        ),
+        RawRel::Join { .. } => listed(
+            alloc,
+            [TreePart::Trees(6, TreesRef::Rels(RelRole::Join, slice::from_ref(rel)))],
+        ),
+        RawRel::Project { .. } => listed(
+            alloc,
+            [TreePart::Trees(7, TreesRef::Rels(RelRole::Project, slice::from_ref(rel)))],
+        ),
+        RawRel::Set { .. } => listed(
+            alloc,
+            [TreePart::Trees(8, TreesRef::Rels(RelRole::Set, slice::from_ref(rel)))],
+        ),
+        RawRel::Cross { .. } => listed(
+            alloc,
+            [TreePart::Trees(12, TreesRef::Rels(RelRole::Cross, slice::from_ref(rel)))],
+        ),
+    }
+}
+
+// a relation as one of its messages
+pub(crate) fn parts_as<'a>(
+    alloc: Global,
+    role: RelRole,
+    rel: &'a RawRel,
+) -> Result<Vec<TreePart<'a>>, NoMemory>
+    ensures { IfOk result (λ parts. tree_parts_seen parts.items ≡ rel_parts_as role rel.now) }
+{
+    match role {
+        RelRole::Rel => rel_parts(alloc, rel),
+        RelRole::Read => read_parts(alloc, rel),
+        RelRole::Filter => filter_parts(alloc, rel),
+        RelRole::Fetch => fetch_parts(alloc, rel),
+        RelRole::Aggregate => aggregate_parts(alloc, rel),
+        RelRole::Sort => sort_parts(alloc, rel),
+        RelRole::Join => join_parts(alloc, rel),
+        RelRole::Project => project_parts(alloc, rel),
+        RelRole::Set => set_parts(alloc, rel),
+        RelRole::Cross => cross_parts(alloc, rel),
     }
 }
 
@@ -393,13 +502,16 @@ pub(crate) fn rel_parts<'a>(alloc: Global, rel: &'a RawRel) -> Result<Vec<PartRe
 pub(crate) fn root_parts<'a>(
     alloc: Global,
     root: &'a RootDecl,
-) -> Result<Vec<PartRef<'a>>, NoMemory>
-    ensures { IfOk result (λ parts. parts_seen parts.items ≡ tables.root_parts root.now) }
+) -> Result<Vec<TreePart<'a>>, NoMemory>
+    ensures { IfOk result (λ parts. tree_parts_seen parts.items ≡ tables.root_parts root.now) }
 {
-    Ok(vec![in alloc;
-        messages(1, MessagesRef::Rel(boxed(&root.input))),
-        blocks(2, root.names.as_slice()),
-    ]?)
+    listed(
+        alloc,
+        [
+            TreePart::Trees(1, TreesRef::Rels(RelRole::Rel, boxed(&root.input))),
+            TreePart::Leaf(blocks(2, root.names.as_slice())),
+        ],
+    )
 }
 
 // the RelRoot of a PlanRel
@@ -417,25 +529,28 @@ fn roots(root: &RootDecl) -> &[RootDecl]
 pub(crate) fn plan_rel_parts<'a>(
     alloc: Global,
     root: &'a RootDecl,
-) -> Result<Vec<PartRef<'a>>, NoMemory>
-    ensures { IfOk result (λ parts. parts_seen parts.items ≡ tables.plan_rel_parts root.now) }
+) -> Result<Vec<TreePart<'a>>, NoMemory>
+    ensures { IfOk result (λ parts. tree_parts_seen parts.items ≡ tables.plan_rel_parts root.now) }
 {
-    Ok(vec![in alloc; messages(2, MessagesRef::RelRoot(roots(root)))]?)
+    listed(alloc, [TreePart::Trees(2, TreesRef::RelRoot(roots(root)))])
 }
 
 // Plan
 pub(crate) fn plan_parts<'a>(
     alloc: Global,
     plan: &'a PlanTree,
-) -> Result<Vec<PartRef<'a>>, NoMemory>
-    ensures { IfOk result (λ parts. parts_seen parts.items ≡ tables.plan_parts plan.now) }
+) -> Result<Vec<TreePart<'a>>, NoMemory>
+    ensures { IfOk result (λ parts. tree_parts_seen parts.items ≡ tables.plan_parts plan.now) }
 {
-    Ok(vec![in alloc;
-        messages(1, MessagesRef::ExtensionUri(plan.uris.as_slice())),
-        messages(
-            2,
-            MessagesRef::ExtensionDeclaration(plan.functions.as_slice())
-        ),
-        messages(3, MessagesRef::PlanRel(plan.roots.as_slice())),
-    ]?)
+    listed(
+        alloc,
+        [
+            TreePart::Leaf(messages(1, MessagesRef::ExtensionUri(plan.uris.as_slice()))),
+            TreePart::Leaf(messages(
+                2,
+                MessagesRef::ExtensionDeclaration(plan.functions.as_slice()),
+            )),
+            TreePart::Trees(3, TreesRef::PlanRel(plan.roots.as_slice())),
+        ],
+    )
 }

@@ -7,18 +7,17 @@ use Rattle.std.proofs.lemmas.Result.{IfOk-weaker, on_ok_weaker}
 use Rattle.pb_wire.specs.Records.{Varint, Bytes}
 use Rattle.pb_wire.specs.Payloads.{Field}
 use Rattle.pb_write.specs.Write.{varint_bytes, record_bytes, message_bytes, packed_bytes}
-use Rattle.plan_raw.specs.declared.plan.PlanTree.{PlanTree}
 use Rattle.plan_scan.specs.declared.shape.Shape.{Shape}
 use Rattle.plan_scan.specs.declared.shape.Shape.TheVariants as s
 use Rattle.plan_spell.specs.Nodes.{Node}
 use Rattle.plan_spell.specs.Held.{Part, Writer, contents, part_fields, fields_by, presence, whole_varint, unless_none, unless_zero, unless_empty, packed}
 use Rattle.plan_spell.specs.Parts.{parts_of}
-use Rattle.plan_spell.specs.Spelled.{spelled, spelled_at}
-use Rattle.spell_tree.specs.declared.part.HeldRef.{HeldRef}
-use Rattle.spell_tree.specs.declared.part.HeldRef.TheVariants as h
-use Rattle.spell_tree.specs.declared.part.MessagesRef.{MessagesRef}
-use Rattle.spell_tree.specs.declared.part.PartRef.{PartRef}
-use Rattle.spell_tree.specs.Seen.{Group, messages_seen, held_seen, part_seen, parts_seen, varint_records, block_records}
+use Rattle.plan_spell.specs.Spelled.{spelled_at}
+use Rattle.spell_leaves.specs.declared.part.HeldRef.{HeldRef}
+use Rattle.spell_leaves.specs.declared.part.HeldRef.TheVariants as h
+use Rattle.spell_leaves.specs.declared.part.MessagesRef.{MessagesRef}
+use Rattle.spell_leaves.specs.declared.part.PartRef.{PartRef}
+use Rattle.spell_leaves.specs.Seen.{Group, messages_seen, held_seen, part_seen, parts_seen, varint_records, block_records}
 
 -- an item in front of those behind it
 behind : {A : Type 0} (xs : List A) (left : ℕ) (x d : A) → 0 < left → left ≤ length xs → x ≡ get_or xs (left - 1) d → drop (left - 1) xs ≡ x ∷ drop left xs
@@ -151,13 +150,13 @@ message_append : (xs ys : List Field) → message_bytes (xs ++ ys) ≡ message_b
 unfolding message_bytes
 message_append xs ys = flat_map-append record_bytes xs ys
 
-pub part_front : (write : Writer) (parts : List PartRef) (left : ℕ) (part d : PartRef) (out rest new : List ℕ) → 0 < left → left ≤ length parts → part ≡ get_or parts (left - 1) d → rest ≡ message_bytes (fields_by write (parts_seen (drop left parts))) ++ out
-    → new ≡ message_bytes (part_fields write (part_seen part)) ++ rest → new ≡ message_bytes (fields_by write (parts_seen (drop (left - 1) parts))) ++ out
-part_front write parts left part d out rest new some within is done put =
-    let later = fields_by write (parts_seen (drop left parts)) in
-    put ∙ ap (λ r. message_bytes (part_fields write (part_seen part)) ++ r) done
-    ∙ sym (append_assoc (message_bytes (part_fields write (part_seen part))) (message_bytes later) out)
-    ∙ ap (λ b. b ++ out) (sym (message_append (part_fields write (part_seen part)) later) ∙ ap (λ ps. message_bytes (fields_by write (parts_seen ps))) (sym (behind parts left part d some within is)))
+pub part_front : {P : Type 0} (seen : P → Part) (write : Writer) (parts : List P) (left : ℕ) (part d : P) (out rest new : List ℕ) → 0 < left → left ≤ length parts → part ≡ get_or parts (left - 1) d → rest ≡ message_bytes (fields_by write (map seen (drop left parts))) ++ out
+    → new ≡ message_bytes (part_fields write (seen part)) ++ rest → new ≡ message_bytes (fields_by write (map seen (drop (left - 1) parts))) ++ out
+part_front seen write parts left part d out rest new some within is done put =
+    let later = fields_by write (map seen (drop left parts)) in
+    put ∙ ap (λ r. message_bytes (part_fields write (seen part)) ++ r) done
+    ∙ sym (append_assoc (message_bytes (part_fields write (seen part))) (message_bytes later) out)
+    ∙ ap (λ b. b ++ out) (sym (message_append (part_fields write (seen part)) later) ∙ ap (λ ps. message_bytes (fields_by write (map seen ps))) (sym (behind parts left part d some within is)))
 
 -- before the first
 pub numbers_begun : (numbers : List ℕ) (out : List ℕ) → out ≡ packed_bytes (drop (length numbers) numbers) ++ out
@@ -175,9 +174,9 @@ blocks_begun number blocks left out is = ap (λ bs. block_records number bs ++ o
 pub messages_begun : {A : Type 0} (number : ℕ) (spell : A → List ℕ) (nodes : List A) (left : ℕ) (out : List ℕ) → left ≡ length nodes → out ≡ block_records number (drop left (map spell nodes)) ++ out
 messages_begun number spell nodes left out is = blocks_begun number (map spell nodes) left out (is ∙ sym (length-map nodes spell))
 
-pub parts_begun : (write : Writer) (parts : List PartRef) (out : List ℕ) → out ≡ message_bytes (fields_by write (parts_seen (drop (length parts) parts))) ++ out
+pub parts_begun : {P : Type 0} (seen : P → Part) (write : Writer) (parts : List P) (out : List ℕ) → out ≡ message_bytes (fields_by write (map seen (drop (length parts) parts))) ++ out
 unfolding message_bytes
-parts_begun write parts out = ap (λ ps. message_bytes (fields_by write (parts_seen ps)) ++ out) (sym (drop_whole parts))
+parts_begun seen write parts out = ap (λ ps. message_bytes (fields_by write (map seen ps)) ++ out) (sym (drop_whole parts))
 
 -- what two functions give of one item
 at_both : {A P : Type 0} (f : A → P) (h : A → List ℕ) (k : P → List ℕ) → ((x : A) → h x ≡ k (f x)) → (xs : List A) (at : ℕ) (d : P) → at < length xs → get_or (map h xs) at [] ≡ k (get_or (map f xs) at d)
@@ -237,26 +236,16 @@ presence_arm levels number held is_there out new result is wrote =
     on_ok_weaker result (λ put. presence_put levels number is_there out new put ∙ ap (λ part. message_bytes (part_fields (spelled_at levels) part) ++ out) (ap (held_seen number) (sym is))) wrote
 
 -- the fields of a message, by the variant that it stands in
-pub items_arm : {V E : Type 0} (seen : V → List Part) (result : Result V E) (messages variant : MessagesRef) (at : ℕ) (shape : Shape) (nodes : List (Node shape)) (node : Node shape) → messages ≡ variant → messages_seen variant ≡ record { shape = shape; nodes = nodes }
-    → at < length (messages_seen messages).nodes → node ≡ get_or nodes at node → IfOk result (λ parts. seen parts ≡ parts_of shape node) → IfOk result (λ parts. seen parts ≡ get_or (map (parts_of (messages_seen messages).shape) (messages_seen messages).nodes) at [])
-items_arm seen result messages variant at shape nodes node is own within found ensured =
-    let group : messages_seen messages ≡ record { shape = shape; nodes = nodes } = ap messages_seen is ∙ own in
+pub items_arm : {M V E : Type 0} (group_of : M → Group) (seen : V → List Part) (result : Result V E) (messages variant : M) (at : ℕ) (shape : Shape) (nodes : List (Node shape)) (node : Node shape) → messages ≡ variant → group_of variant ≡ record { shape = shape; nodes = nodes }
+    → at < length (group_of messages).nodes → node ≡ get_or nodes at node → IfOk result (λ parts. seen parts ≡ parts_of shape node) → IfOk result (λ parts. seen parts ≡ get_or (map (parts_of (group_of messages).shape) (group_of messages).nodes) at [])
+items_arm group_of seen result messages variant at shape nodes node is own within found ensured =
+    let group : group_of messages ≡ record { shape = shape; nodes = nodes } = ap group_of is ∙ own in
     let here : at < length nodes = subst (λ (g : Group). at < length g.nodes) group within in
-    IfOk-weaker result (λ parts. seen parts ≡ parts_of shape node) (λ parts. seen parts ≡ get_or (map (parts_of (messages_seen messages).shape) (messages_seen messages).nodes) at []) (λ parts are. item_parts (parts_of shape) nodes at node (seen parts) here found are ∙ ap (λ (g : Group). get_or (map (parts_of g.shape) g.nodes) at []) (sym group)) ensured
+    IfOk-weaker result (λ parts. seen parts ≡ parts_of shape node) (λ parts. seen parts ≡ get_or (map (parts_of (group_of messages).shape) (group_of messages).nodes) at []) (λ parts are. item_parts (parts_of shape) nodes at node (seen parts) here found are ∙ ap (λ (g : Group). get_or (map (parts_of g.shape) g.nodes) at []) (sym group)) ensured
 
-pub single_arm : {V E : Type 0} (seen : V → List Part) (result : Result V E) (messages variant : MessagesRef) (at : ℕ) (shape : Shape) (node : Node shape) → messages ≡ variant → messages_seen variant ≡ record { shape = shape; nodes = node ∷ [] }
-    → at < length (messages_seen messages).nodes → IfOk result (λ parts. seen parts ≡ parts_of shape node) → IfOk result (λ parts. seen parts ≡ get_or (map (parts_of (messages_seen messages).shape) (messages_seen messages).nodes) at [])
-single_arm seen result messages variant at shape node is own within ensured =
-    let group : messages_seen messages ≡ record { shape = shape; nodes = node ∷ [] } = ap messages_seen is ∙ own in
+pub single_arm : {M V E : Type 0} (group_of : M → Group) (seen : V → List Part) (result : Result V E) (messages variant : M) (at : ℕ) (shape : Shape) (node : Node shape) → messages ≡ variant → group_of variant ≡ record { shape = shape; nodes = node ∷ [] }
+    → at < length (group_of messages).nodes → IfOk result (λ parts. seen parts ≡ parts_of shape node) → IfOk result (λ parts. seen parts ≡ get_or (map (parts_of (group_of messages).shape) (group_of messages).nodes) at [])
+single_arm group_of seen result messages variant at shape node is own within ensured =
+    let group : group_of messages ≡ record { shape = shape; nodes = node ∷ [] } = ap group_of is ∙ own in
     let here : at < length (node ∷ []) = subst (λ (g : Group). at < length g.nodes) group within in
-    IfOk-weaker result (λ parts. seen parts ≡ parts_of shape node) (λ parts. seen parts ≡ get_or (map (parts_of (messages_seen messages).shape) (messages_seen messages).nodes) at []) (λ parts are. only_parts at (seen parts) (parts_of shape node) (omega (arith, here)) are ∙ ap (λ (g : Group). get_or (map (parts_of g.shape) g.nodes) at []) (sym group)) ensured
-
--- the bytes of a plan
-pub plan_put : (tree : PlanTree) (out new bytes : List ℕ) → out ≡ [] → new ≡ get_or (map (spelled_at 100 s.Plan) (tree ∷ [])) 0 [] ++ out → bytes ≡ new → bytes ≡ spelled tree
-unfolding spelled
-plan_put tree out new bytes none put are = are ∙ put ∙ ap (λ b. spelled_at 100 s.Plan tree ++ b) none ∙ append-nil (spelled_at 100 s.Plan tree)
-
-pub plan_short : (tree : PlanTree) (out new : List ℕ) (len : ℕ) → out ≡ [] → new ≡ get_or (map (spelled_at 100 s.Plan) (tree ∷ [])) 0 [] ++ out → len ≡ length new → len < 2 ^ 64 → length (spelled tree) < 2 ^ 64
-plan_short tree out new len none put is short =
-    let long : len ≡ length (spelled tree) = is ∙ ap length (plan_put tree out new new none put refl) in
-    subst (λ n. n < 2 ^ 64) long short
+    IfOk-weaker result (λ parts. seen parts ≡ parts_of shape node) (λ parts. seen parts ≡ get_or (map (parts_of (group_of messages).shape) (group_of messages).nodes) at []) (λ parts are. only_parts at (seen parts) (parts_of shape node) (omega (arith, here)) are ∙ ap (λ (g : Group). get_or (map (parts_of g.shape) g.nodes) at []) (sym group)) ensured

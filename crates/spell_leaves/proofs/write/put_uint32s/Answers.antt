@@ -1,6 +1,6 @@
 use Rattle.std.proofs.Common.{arith}
-use Rattle.spell_tree.proofs.FrontLaws.{numbers_begun, uint32_front}
-use Rattle.spell_tree.proofs.write.put_uint32s.Goals as goal
+use Rattle.spell_leaves.proofs.FrontLaws.{numbers_begun, uint32_front}
+use Rattle.spell_leaves.proofs.write.put_uint32s.Goals as goal
 
 pub loop-left-init : goal.loop-left-init
 loop-left-init c = (omega arith, numbers_begun c.args.numbers.now c.args.out.now)

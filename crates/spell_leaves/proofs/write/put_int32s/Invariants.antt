@@ -1,7 +1,7 @@
 use Rattle.std.proofs.Common.{◌≡◌, ◌++◌, ◌≤◌, drop, length, map}
 use Rattle.pb_write.specs.Write.{packed_bytes}
 use Rattle.plan_spell.specs.Held.{whole_varint}
-use Rattle.spell_tree.proofs.write.put_int32s.Given as goal
+use Rattle.spell_leaves.proofs.write.put_int32s.Given as goal
 
 abbrev pub invariant-loop-left : goal.invariant-loop-left
 invariant-loop-left l = (l.left ≤ length l.numbers) × (l.out ≡ packed_bytes (map whole_varint (drop l.left l.numbers)) ++ l.initial.out)

@@ -1,8 +1,8 @@
 use Rattle.std.proofs.Common.{◌∙◌, ◌++◌, ap, arith}
 use Rattle.pb_wire.specs.Records.{Bytes}
 use Rattle.pb_write.specs.Write.{record_bytes}
-use Rattle.spell_tree.proofs.FrontLaws.{block_front}
-use Rattle.spell_tree.proofs.write.write_blocks.Goals as goal
+use Rattle.spell_leaves.proofs.FrontLaws.{block_front}
+use Rattle.spell_leaves.proofs.write.write_blocks.Goals as goal
 
 pub loop-left-preserved : goal.loop-left-preserved
 loop-left-preserved c = (

@@ -4,10 +4,10 @@ ghost use Rattle.plan_scan.specs.declared.shape.Shape.TheVariants as shapes;
 ghost use Rattle.plan_spell.specs.Held.{member};
 ghost use Rattle.plan_spell.specs.Leaves as tables;
 ghost use Rattle.plan_leaves.specs.declared.types.RawType.{out-RawType};
-ghost use Rattle.spell_tree.specs.Seen.{held_seen, parts_seen};
+ghost use Rattle.spell_leaves.specs.Seen.{held_seen, parts_seen};
 
 use crate::fields::{
-    block, block_member, blocks, int32, messages, optional, presence, truth, uint32,
+    block, block_member, blocks, int32, listed, messages, optional, presence, truth, uint32,
 };
 use crate::part::{HeldRef, MessagesRef, PartRef};
 use plan_leaves::{
@@ -23,7 +23,7 @@ use sub_types::NoMemory;
 pub(crate) fn uri_parts<'a>(alloc: Global, uri: &'a UriDecl) -> Result<Vec<PartRef<'a>>, NoMemory>
     ensures { IfOk result (λ parts. parts_seen parts.items ≡ tables.uri_parts uri.now) }
 {
-    Ok(vec![in alloc; uint32(1, uri.anchor), block(2, uri.uri.bytes())]?)
+    listed(alloc, [uint32(1, uri.anchor), block(2, uri.uri.bytes())])
 }
 
 // SimpleExtensionDeclaration
@@ -33,7 +33,7 @@ pub(crate) fn declaration_parts<'a>(
 ) -> Result<Vec<PartRef<'a>>, NoMemory>
     ensures { IfOk result (λ parts. parts_seen parts.items ≡ tables.declaration_parts function.now) }
 {
-    Ok(vec![in alloc; messages(3, MessagesRef::ExtensionFunction(function))]?)
+    listed(alloc, [messages(3, MessagesRef::ExtensionFunction(function))])
 }
 
 // its extension_function
@@ -43,11 +43,11 @@ pub(crate) fn function_parts<'a>(
 ) -> Result<Vec<PartRef<'a>>, NoMemory>
     ensures { IfOk result (λ parts. parts_seen parts.items ≡ tables.function_parts function.now) }
 {
-    Ok(vec![in alloc;
+    listed(alloc, [
         uint32(1, function.uri),
         uint32(2, function.anchor),
         block(3, function.name.bytes()),
-    ]?)
+    ])
 }
 
 // RelCommon
@@ -59,9 +59,9 @@ pub(crate) fn common_parts<'a>(
 {
     match common {
         RelCommon::Missing => Ok(Vec::new(alloc)),
-        RelCommon::Direct => Ok(vec![in alloc; presence(1, true)]?),
+        RelCommon::Direct => listed(alloc, [presence(1, true)]),
         RelCommon::Emit { output_mapping } => {
-            Ok(vec![in alloc; messages(2, MessagesRef::Emit(output_mapping.as_slice()))]?)
+            listed(alloc, [messages(2, MessagesRef::Emit(output_mapping.as_slice()))])
         }
     }
 }
@@ -73,12 +73,12 @@ pub(crate) fn emit_parts<'a>(
 ) -> Result<Vec<PartRef<'a>>, NoMemory>
     ensures { IfOk result (λ parts. parts_seen parts.items ≡ tables.emit_parts mapping.now) }
 {
-    Ok(vec![in alloc;
+    listed(alloc, [
         PartRef {
             number: 1,
             held: HeldRef::PackedInt32s(mapping)
         },
-    ]?)
+    ])
 }
 
 // NamedStruct
@@ -88,10 +88,10 @@ pub(crate) fn named_struct_parts<'a>(
 ) -> Result<Vec<PartRef<'a>>, NoMemory>
     ensures { IfOk result (λ parts. parts_seen parts.items ≡ tables.named_struct_parts schema.now) }
 {
-    Ok(vec![in alloc;
+    listed(alloc, [
         blocks(1, schema.names.as_slice()),
         messages(2, MessagesRef::StructType(optional(&schema.struct_))),
-    ]?)
+    ])
 }
 
 // ReadRel.NamedTable
@@ -101,7 +101,7 @@ pub(crate) fn named_table_parts<'a>(
 ) -> Result<Vec<PartRef<'a>>, NoMemory>
     ensures { IfOk result (λ parts. parts_seen parts.items ≡ tables.named_table_parts table.now) }
 {
-    Ok(vec![in alloc; blocks(1, table.names.as_slice())]?)
+    listed(alloc, [blocks(1, table.names.as_slice())])
 }
 
 // ReadRel.LocalFiles
@@ -111,7 +111,7 @@ pub(crate) fn local_files_parts<'a>(
 ) -> Result<Vec<PartRef<'a>>, NoMemory>
     ensures { IfOk result (λ parts. parts_seen parts.items ≡ tables.local_files_parts files.now) }
 {
-    Ok(vec![in alloc; messages(1, MessagesRef::FileItem(files.items.as_slice()))]?)
+    listed(alloc, [messages(1, MessagesRef::FileItem(files.items.as_slice()))])
 }
 
 // its items
@@ -122,15 +122,15 @@ pub(crate) fn file_item_parts<'a>(
     ensures { IfOk result (λ parts. parts_seen parts.items ≡ tables.file_item_parts item.now) }
 {
     match &item.path {
-        ItemPath::Missing => Ok(vec![in alloc; presence(10, item.arrow)]?),
-        ItemPath::UriPath(uri) => Ok(vec![in alloc;
+        ItemPath::Missing => listed(alloc, [presence(10, item.arrow)]),
+        ItemPath::UriPath(uri) => listed(alloc, [
             block_member(1, uri.bytes()),
             presence(10, item.arrow),
-        ]?),
-        ItemPath::UriFile(uri) => Ok(vec![in alloc;
+        ]),
+        ItemPath::UriFile(uri) => listed(alloc, [
             block_member(3, uri.bytes()),
             presence(10, item.arrow),
-        ]?),
+        ]),
     }
 }
 
@@ -141,7 +141,7 @@ pub(crate) fn mask_parts<'a>(
 ) -> Result<Vec<PartRef<'a>>, NoMemory>
     ensures { IfOk result (λ parts. parts_seen parts.items ≡ tables.mask_parts mask.now) }
 {
-    Ok(vec![in alloc; messages(1, MessagesRef::StructSelect(optional(&mask.select)))]?)
+    listed(alloc, [messages(1, MessagesRef::StructSelect(optional(&mask.select)))])
 }
 
 // its StructSelect
@@ -151,7 +151,7 @@ pub(crate) fn mask_struct_parts<'a>(
 ) -> Result<Vec<PartRef<'a>>, NoMemory>
     ensures { IfOk result (λ parts. parts_seen parts.items ≡ tables.mask_struct_parts select.now) }
 {
-    Ok(vec![in alloc; messages(1, MessagesRef::StructItem(select.struct_items.as_slice()))]?)
+    listed(alloc, [messages(1, MessagesRef::StructItem(select.struct_items.as_slice()))])
 }
 
 // its StructItem
@@ -161,7 +161,7 @@ pub(crate) fn mask_item_parts<'a>(
 ) -> Result<Vec<PartRef<'a>>, NoMemory>
     ensures { IfOk result (λ parts. parts_seen parts.items ≡ tables.mask_item_parts item.now) }
 {
-    Ok(vec![in alloc; int32(1, &item.field), presence(2, item.child)]?)
+    listed(alloc, [int32(1, &item.field), presence(2, item.child)])
 }
 
 // FunctionOption
@@ -171,10 +171,10 @@ pub(crate) fn option_parts<'a>(
 ) -> Result<Vec<PartRef<'a>>, NoMemory>
     ensures { IfOk result (λ parts. parts_seen parts.items ≡ tables.option_parts option.now) }
 {
-    Ok(vec![in alloc;
+    listed(alloc, [
         block(1, option.name.bytes()),
         blocks(2, option.preference.as_slice()),
-    ]?)
+    ])
 }
 
 // Expression.ReferenceSegment
@@ -184,7 +184,7 @@ pub(crate) fn segment_parts<'a>(
 ) -> Result<Vec<PartRef<'a>>, NoMemory>
     ensures { IfOk result (λ parts. parts_seen parts.items ≡ tables.segment_parts segment.now) }
 {
-    Ok(vec![in alloc; messages(2, MessagesRef::StructField(optional(&segment.struct_field)))]?)
+    listed(alloc, [messages(2, MessagesRef::StructField(optional(&segment.struct_field)))])
 }
 
 // its StructField
@@ -194,7 +194,7 @@ pub(crate) fn struct_field_parts<'a>(
 ) -> Result<Vec<PartRef<'a>>, NoMemory>
     ensures { IfOk result (λ parts. parts_seen parts.items ≡ tables.struct_field_parts field.now) }
 {
-    Ok(vec![in alloc; int32(1, &field.field), presence(2, field.child)]?)
+    listed(alloc, [int32(1, &field.field), presence(2, field.child)])
 }
 
 // a type that has nothing but its nullability
@@ -205,7 +205,7 @@ fn plain_type<'a>(
 ) -> Result<Vec<PartRef<'a>>, NoMemory>
     ensures { IfOk result (λ parts. parts_seen parts.items ≡ member number shapes.PlainType nullability ∷ []) }
 {
-    Ok(vec![in alloc; messages(number, MessagesRef::PlainType(nullability))]?)
+    listed(alloc, [messages(number, MessagesRef::PlainType(nullability))])
 }
 
 // Type
@@ -223,10 +223,10 @@ pub(crate) fn type_parts<'a>(alloc: Global, ty: &'a RawType) -> Result<Vec<PartR
         RawType::Binary { nullability } => plain_type(alloc, 13, *nullability),
         RawType::Timestamp { nullability } => plain_type(alloc, 14, *nullability),
         RawType::Date { nullability } => plain_type(alloc, 16, *nullability),
-        RawType::Decimal { .. } => Ok(vec![in alloc; messages(24, MessagesRef::DecimalType(ty))]?),
-        RawType::Struct { types } => Ok(vec![in alloc;
+        RawType::Decimal { .. } => listed(alloc, [messages(24, MessagesRef::DecimalType(ty))]),
+        RawType::Struct { types } => listed(alloc, [
             messages(25, MessagesRef::TypeStruct(types.as_slice())),
-        ]?),
+        ]),
     }
 }
 
@@ -234,7 +234,7 @@ pub(crate) fn type_parts<'a>(alloc: Global, ty: &'a RawType) -> Result<Vec<PartR
 pub(crate) fn plain_parts<'a>(alloc: Global, nullability: u32) -> Result<Vec<PartRef<'a>>, NoMemory>
     ensures { IfOk result (λ parts. parts_seen parts.items ≡ tables.plain_parts nullability) }
 {
-    Ok(vec![in alloc; uint32(2, nullability)]?)
+    listed(alloc, [uint32(2, nullability)])
 }
 
 // Type.Decimal
@@ -250,11 +250,11 @@ pub(crate) fn decimal_type_parts<'a>(
             precision,
             nullability,
         } => {
-            Ok(vec![in alloc;
+            listed(alloc, [
                 int32(1, scale),
                 int32(2, precision),
                 uint32(4, *nullability),
-            ]?)
+            ])
         }
         _ => Ok(Vec::new(alloc)),
     }
@@ -267,7 +267,7 @@ pub(crate) fn struct_type_parts<'a>(
 ) -> Result<Vec<PartRef<'a>>, NoMemory>
     ensures { IfOk result (λ parts. parts_seen parts.items ≡ tables.struct_type_parts struct_type.now) }
 {
-    Ok(vec![in alloc; messages(1, MessagesRef::DataType(struct_type.types.as_slice()))]?)
+    listed(alloc, [messages(1, MessagesRef::DataType(struct_type.types.as_slice()))])
 }
 
 // Type.Struct where it is a type
@@ -277,7 +277,7 @@ pub(crate) fn type_struct_parts<'a>(
 ) -> Result<Vec<PartRef<'a>>, NoMemory>
     ensures { IfOk result (λ parts. parts_seen parts.items ≡ tables.struct_type_parts (record { types = types.now })) }
 {
-    Ok(vec![in alloc; messages(1, MessagesRef::DataType(types))]?)
+    listed(alloc, [messages(1, MessagesRef::DataType(types))])
 }
 
 // the member of a literal, and whether it is nullable
@@ -289,7 +289,7 @@ fn literal_with<'a>(
 ) -> Result<Vec<PartRef<'a>>, NoMemory>
     ensures { IfOk result (λ parts. parts_seen parts.items ≡ tables.literal_with (held_seen number held.entry) nullable) }
 {
-    Ok(vec![in alloc; PartRef { number, held }, truth(50, nullable)]?)
+    listed(alloc, [PartRef { number, held }, truth(50, nullable)])
 }
 
 // Expression.Literal
@@ -384,11 +384,11 @@ pub(crate) fn decimal_parts<'a>(
             scale,
             ..
         } => {
-            Ok(vec![in alloc;
+            listed(alloc, [
                 block(1, value.bytes()),
                 int32(2, precision),
                 int32(3, scale),
-            ]?)
+            ])
         }
         _ => Ok(Vec::new(alloc)),
     }
@@ -401,5 +401,5 @@ pub(crate) fn literal_row_parts<'a>(
 ) -> Result<Vec<PartRef<'a>>, NoMemory>
     ensures { IfOk result (λ parts. parts_seen parts.items ≡ tables.literal_row_parts row.now) }
 {
-    Ok(vec![in alloc; messages(1, MessagesRef::Literal(row.fields.as_slice()))]?)
+    listed(alloc, [messages(1, MessagesRef::Literal(row.fields.as_slice()))])
 }

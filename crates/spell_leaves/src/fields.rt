@@ -1,16 +1,18 @@
-// Fields by their kinds, and what stands in optional ones.
-ghost use Rattle.std.specs.Prelude.{◌≡◌, ◌<◌, [], ◌∷◌, get_or, length};
+// Fields by their kinds, what stands in optional ones, and lists of them.
+ghost use Rattle.std.specs.Prelude.{◌≡◌, ◌<◌, [], ◌∷◌, IfOk, get_or, length};
 ghost use Rattle.std.specs.Option.{option_to_list};
 ghost use Rattle.std.specs.Mem.{FitsInMemory};
 ghost use Rattle.plan_spell.specs.Held as held;
-ghost use Rattle.spell_tree.specs.Seen.{messages_seen, part_seen};
+ghost use Rattle.spell_leaves.specs.Seen.{messages_seen, part_seen};
 
 use crate::part::{HeldRef, MessagesRef, PartRef};
 use plan_leaves::Boxed;
+use std::alloc::Global;
 use std::slice;
-use sub_types::ByteList;
+use sub_types::{ByteList, NoMemory};
 
-pub(crate) fn uint32<'a>(number: u32, value: u32) -> PartRef<'a>
+/// A number that is no member of a oneof.
+pub fn uint32<'a>(number: u32, value: u32) -> PartRef<'a>
     ensures { part_seen result ≡ held.uint32 number value }
 {
     PartRef {
@@ -37,7 +39,8 @@ pub(crate) fn truth<'a>(number: u32, value: bool) -> PartRef<'a>
     }
 }
 
-pub(crate) fn block<'a>(number: u32, bytes: &'a [u8]) -> PartRef<'a>
+/// Bytes that are no member of a oneof.
+pub fn block<'a>(number: u32, bytes: &'a [u8]) -> PartRef<'a>
     ensures { part_seen result ≡ held.block number bytes.now }
 {
     PartRef {
@@ -46,7 +49,8 @@ pub(crate) fn block<'a>(number: u32, bytes: &'a [u8]) -> PartRef<'a>
     }
 }
 
-pub(crate) fn blocks<'a>(number: u32, blocks: &'a [ByteList]) -> PartRef<'a>
+/// Texts of a repeated field.
+pub fn blocks<'a>(number: u32, blocks: &'a [ByteList]) -> PartRef<'a>
     ensures { part_seen result ≡ held.blocks number blocks.now }
 {
     PartRef {
@@ -56,7 +60,7 @@ pub(crate) fn blocks<'a>(number: u32, blocks: &'a [ByteList]) -> PartRef<'a>
 }
 
 /// Bytes that are a member of a oneof.
-pub(crate) fn block_member<'a>(number: u32, bytes: &'a [u8]) -> PartRef<'a>
+pub fn block_member<'a>(number: u32, bytes: &'a [u8]) -> PartRef<'a>
     ensures { part_seen result ≡ held.blocks number (bytes.now ∷ []) }
 {
     PartRef {
@@ -65,7 +69,8 @@ pub(crate) fn block_member<'a>(number: u32, bytes: &'a [u8]) -> PartRef<'a>
     }
 }
 
-pub(crate) fn messages<'a>(number: u32, messages: MessagesRef<'a>) -> PartRef<'a>
+/// The messages of a field.
+pub fn messages<'a>(number: u32, messages: MessagesRef<'a>) -> PartRef<'a>
     ensures { part_seen result ≡ record { number = number; held = held.Messages (messages_seen messages.entry).shape (messages_seen messages.entry).nodes } }
 {
     PartRef {
@@ -75,7 +80,7 @@ pub(crate) fn messages<'a>(number: u32, messages: MessagesRef<'a>) -> PartRef<'a
 }
 
 /// A message of which only the presence is read.
-pub(crate) fn presence<'a>(number: u32, is_there: bool) -> PartRef<'a>
+pub fn presence<'a>(number: u32, is_there: bool) -> PartRef<'a>
     ensures { part_seen result ≡ held.presence number is_there }
 {
     PartRef {
@@ -85,7 +90,7 @@ pub(crate) fn presence<'a>(number: u32, is_there: bool) -> PartRef<'a>
 }
 
 /// What stands in an optional place.
-pub(crate) fn optional<T>(value: &Option<T>) -> &[T]
+pub fn optional<T>(value: &Option<T>) -> &[T]
     requires { FitsInMemory T.row }
     ensures { result.now ≡ option_to_list value.now }
 {
@@ -96,7 +101,7 @@ pub(crate) fn optional<T>(value: &Option<T>) -> &[T]
 }
 
 /// What stands boxed in an optional place.
-pub(crate) fn boxed<T>(value: &Option<Boxed<T>>) -> &[T]
+pub fn boxed<T>(value: &Option<Boxed<T>>) -> &[T]
     requires { FitsInMemory T.row }
     ensures { result.now ≡ option_to_list value.now }
 {
@@ -112,4 +117,11 @@ pub(crate) fn item_at<T>(items: &[T], at: usize) -> &T
     ensures { result.now ≡ get_or items.now at result.now }
 {
     &items[at]
+}
+
+/// A list of these items.
+pub fn listed<T: Drop, const N: usize>(alloc: Global, items: [T; N]) -> Result<Vec<T>, NoMemory>
+    ensures { IfOk result (λ list. list.items ≡ items) }
+{
+    Ok(Vec::from_array(alloc, items)?)
 }

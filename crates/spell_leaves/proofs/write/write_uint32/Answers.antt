@@ -1,5 +1,5 @@
-use Rattle.spell_tree.proofs.FrontLaws.{none_put}
-use Rattle.spell_tree.proofs.write.write_uint32.Goals as goal
+use Rattle.spell_leaves.proofs.FrontLaws.{none_put}
+use Rattle.spell_leaves.proofs.write.write_uint32.Goals as goal
 
 pub returns-then-value-eq0 : goal.returns-then-value-eq0
 returns-then-value-eq0 c = none_put c.args.number c.args.value c.args.out.now c.if-value-eq0.true

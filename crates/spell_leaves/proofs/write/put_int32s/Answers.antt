@@ -1,6 +1,6 @@
 use Rattle.std.proofs.Common.{◌-◌, get_or, pos, refl, arith}
-use Rattle.spell_tree.proofs.FrontLaws.{int32_front}
-use Rattle.spell_tree.proofs.write.put_int32s.Goals as goal
+use Rattle.spell_leaves.proofs.FrontLaws.{int32_front}
+use Rattle.spell_leaves.proofs.write.put_int32s.Goals as goal
 
 pub loop-left-preserved : goal.loop-left-preserved
 loop-left-preserved c = (
