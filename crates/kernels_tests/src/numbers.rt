@@ -179,7 +179,8 @@ fn sums<T: Native>(alloc: Global, nulls: bool) -> bool {
     let a = column::<T>(alloc, 150, nulls, 1);
     for len in 0..131 {
         let part = part_of(&a.view(), len % 10, len);
-        if part.len() >= 0x8000_0000 || !is_sum(sum(part_of(&part, 0, part.len())), &part) {
+        let same = part_of(&a.view(), len % 10, len);
+        if same.len() >= 0x8000_0000 || !is_sum(sum(same), &part) {
             return false;
         }
     }
