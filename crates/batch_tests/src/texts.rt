@@ -89,12 +89,7 @@ fn gathers(alloc: Global, view: &TextView<'_>, at: &[u64], list: &[Option<&[u8]>
 }
 
 // The same where there may be no value at a place.
-fn gathers_or_null(
-    alloc: Global,
-    view: &TextView<'_>,
-    at: &[u64],
-    list: &[Option<&[u8]>],
-) -> bool {
+fn gathers_or_null(alloc: Global, view: &TextView<'_>, at: &[u64], list: &[Option<&[u8]>]) -> bool {
     match view.gather_or_null(alloc, at) {
         Ok(picked) => are(&picked.view(), list),
         Err(_) => false,
@@ -181,7 +176,12 @@ fn no_place_one_value_and_room(rt: HostRuntime) {
     let column = column_of(alloc, &[one, None, empty]);
     let part = part_of(&column.view(), 1, 3);
     let seen = [
-        gathers_or_null(alloc, &column.view(), &[2, 3, 0, 1], &[empty, None, one, None]),
+        gathers_or_null(
+            alloc,
+            &column.view(),
+            &[2, 3, 0, 1],
+            &[empty, None, one, None],
+        ),
         gathers_or_null(alloc, &column.view(), &[0, 0], &[one, one]),
         gathers_or_null(alloc, &part, &[1, 2, u64::MAX], &[empty, None, None]),
         repeats(alloc, one, &[one, one, one]),

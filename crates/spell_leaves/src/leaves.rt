@@ -33,7 +33,10 @@ pub(crate) fn declaration_parts<'a>(
 ) -> Result<Vec<PartRef<'a>>, NoMemory>
     ensures { IfOk result (λ parts. parts_seen parts.items ≡ tables.declaration_parts function.now) }
 {
-    listed(alloc, [messages(3, MessagesRef::ExtensionFunction(function))])
+    listed(
+        alloc,
+        [messages(3, MessagesRef::ExtensionFunction(function))],
+    )
 }
 
 // its extension_function
@@ -43,11 +46,14 @@ pub(crate) fn function_parts<'a>(
 ) -> Result<Vec<PartRef<'a>>, NoMemory>
     ensures { IfOk result (λ parts. parts_seen parts.items ≡ tables.function_parts function.now) }
 {
-    listed(alloc, [
-        uint32(1, function.uri),
-        uint32(2, function.anchor),
-        block(3, function.name.bytes()),
-    ])
+    listed(
+        alloc,
+        [
+            uint32(1, function.uri),
+            uint32(2, function.anchor),
+            block(3, function.name.bytes()),
+        ],
+    )
 }
 
 // RelCommon
@@ -61,7 +67,10 @@ pub(crate) fn common_parts<'a>(
         RelCommon::Missing => Ok(Vec::new(alloc)),
         RelCommon::Direct => listed(alloc, [presence(1, true)]),
         RelCommon::Emit { output_mapping } => {
-            listed(alloc, [messages(2, MessagesRef::Emit(output_mapping.as_slice()))])
+            listed(
+                alloc,
+                [messages(2, MessagesRef::Emit(output_mapping.as_slice()))],
+            )
         }
     }
 }
@@ -73,12 +82,13 @@ pub(crate) fn emit_parts<'a>(
 ) -> Result<Vec<PartRef<'a>>, NoMemory>
     ensures { IfOk result (λ parts. parts_seen parts.items ≡ tables.emit_parts mapping.now) }
 {
-    listed(alloc, [
-        PartRef {
+    listed(
+        alloc,
+        [PartRef {
             number: 1,
-            held: HeldRef::PackedInt32s(mapping)
-        },
-    ])
+            held: HeldRef::PackedInt32s(mapping),
+        }],
+    )
 }
 
 // NamedStruct
@@ -88,10 +98,13 @@ pub(crate) fn named_struct_parts<'a>(
 ) -> Result<Vec<PartRef<'a>>, NoMemory>
     ensures { IfOk result (λ parts. parts_seen parts.items ≡ tables.named_struct_parts schema.now) }
 {
-    listed(alloc, [
-        blocks(1, schema.names.as_slice()),
-        messages(2, MessagesRef::StructType(optional(&schema.struct_))),
-    ])
+    listed(
+        alloc,
+        [
+            blocks(1, schema.names.as_slice()),
+            messages(2, MessagesRef::StructType(optional(&schema.struct_))),
+        ],
+    )
 }
 
 // ReadRel.NamedTable
@@ -111,7 +124,10 @@ pub(crate) fn local_files_parts<'a>(
 ) -> Result<Vec<PartRef<'a>>, NoMemory>
     ensures { IfOk result (λ parts. parts_seen parts.items ≡ tables.local_files_parts files.now) }
 {
-    listed(alloc, [messages(1, MessagesRef::FileItem(files.items.as_slice()))])
+    listed(
+        alloc,
+        [messages(1, MessagesRef::FileItem(files.items.as_slice()))],
+    )
 }
 
 // its items
@@ -123,14 +139,14 @@ pub(crate) fn file_item_parts<'a>(
 {
     match &item.path {
         ItemPath::Missing => listed(alloc, [presence(10, item.arrow)]),
-        ItemPath::UriPath(uri) => listed(alloc, [
-            block_member(1, uri.bytes()),
-            presence(10, item.arrow),
-        ]),
-        ItemPath::UriFile(uri) => listed(alloc, [
-            block_member(3, uri.bytes()),
-            presence(10, item.arrow),
-        ]),
+        ItemPath::UriPath(uri) => listed(
+            alloc,
+            [block_member(1, uri.bytes()), presence(10, item.arrow)],
+        ),
+        ItemPath::UriFile(uri) => listed(
+            alloc,
+            [block_member(3, uri.bytes()), presence(10, item.arrow)],
+        ),
     }
 }
 
@@ -141,7 +157,10 @@ pub(crate) fn mask_parts<'a>(
 ) -> Result<Vec<PartRef<'a>>, NoMemory>
     ensures { IfOk result (λ parts. parts_seen parts.items ≡ tables.mask_parts mask.now) }
 {
-    listed(alloc, [messages(1, MessagesRef::StructSelect(optional(&mask.select)))])
+    listed(
+        alloc,
+        [messages(1, MessagesRef::StructSelect(optional(&mask.select)))],
+    )
 }
 
 // its StructSelect
@@ -151,7 +170,10 @@ pub(crate) fn mask_struct_parts<'a>(
 ) -> Result<Vec<PartRef<'a>>, NoMemory>
     ensures { IfOk result (λ parts. parts_seen parts.items ≡ tables.mask_struct_parts select.now) }
 {
-    listed(alloc, [messages(1, MessagesRef::StructItem(select.struct_items.as_slice()))])
+    listed(
+        alloc,
+        [messages(1, MessagesRef::StructItem(select.struct_items.as_slice()))],
+    )
 }
 
 // its StructItem
@@ -171,10 +193,13 @@ pub(crate) fn option_parts<'a>(
 ) -> Result<Vec<PartRef<'a>>, NoMemory>
     ensures { IfOk result (λ parts. parts_seen parts.items ≡ tables.option_parts option.now) }
 {
-    listed(alloc, [
-        block(1, option.name.bytes()),
-        blocks(2, option.preference.as_slice()),
-    ])
+    listed(
+        alloc,
+        [
+            block(1, option.name.bytes()),
+            blocks(2, option.preference.as_slice()),
+        ],
+    )
 }
 
 // Expression.ReferenceSegment
@@ -184,7 +209,10 @@ pub(crate) fn segment_parts<'a>(
 ) -> Result<Vec<PartRef<'a>>, NoMemory>
     ensures { IfOk result (λ parts. parts_seen parts.items ≡ tables.segment_parts segment.now) }
 {
-    listed(alloc, [messages(2, MessagesRef::StructField(optional(&segment.struct_field)))])
+    listed(
+        alloc,
+        [messages(2, MessagesRef::StructField(optional(&segment.struct_field)))],
+    )
 }
 
 // its StructField
@@ -205,7 +233,10 @@ fn plain_type<'a>(
 ) -> Result<Vec<PartRef<'a>>, NoMemory>
     ensures { IfOk result (λ parts. parts_seen parts.items ≡ member number shapes.PlainType nullability ∷ []) }
 {
-    listed(alloc, [messages(number, MessagesRef::PlainType(nullability))])
+    listed(
+        alloc,
+        [messages(number, MessagesRef::PlainType(nullability))],
+    )
 }
 
 // Type
@@ -224,9 +255,10 @@ pub(crate) fn type_parts<'a>(alloc: Global, ty: &'a RawType) -> Result<Vec<PartR
         RawType::Timestamp { nullability } => plain_type(alloc, 14, *nullability),
         RawType::Date { nullability } => plain_type(alloc, 16, *nullability),
         RawType::Decimal { .. } => listed(alloc, [messages(24, MessagesRef::DecimalType(ty))]),
-        RawType::Struct { types } => listed(alloc, [
-            messages(25, MessagesRef::TypeStruct(types.as_slice())),
-        ]),
+        RawType::Struct { types } => listed(
+            alloc,
+            [messages(25, MessagesRef::TypeStruct(types.as_slice()))],
+        ),
     }
 }
 
@@ -250,11 +282,14 @@ pub(crate) fn decimal_type_parts<'a>(
             precision,
             nullability,
         } => {
-            listed(alloc, [
-                int32(1, scale),
-                int32(2, precision),
-                uint32(4, *nullability),
-            ])
+            listed(
+                alloc,
+                [
+                    int32(1, scale),
+                    int32(2, precision),
+                    uint32(4, *nullability),
+                ],
+            )
         }
         _ => Ok(Vec::new(alloc)),
     }
@@ -267,7 +302,10 @@ pub(crate) fn struct_type_parts<'a>(
 ) -> Result<Vec<PartRef<'a>>, NoMemory>
     ensures { IfOk result (λ parts. parts_seen parts.items ≡ tables.struct_type_parts struct_type.now) }
 {
-    listed(alloc, [messages(1, MessagesRef::DataType(struct_type.types.as_slice()))])
+    listed(
+        alloc,
+        [messages(1, MessagesRef::DataType(struct_type.types.as_slice()))],
+    )
 }
 
 // Type.Struct where it is a type
@@ -384,11 +422,14 @@ pub(crate) fn decimal_parts<'a>(
             scale,
             ..
         } => {
-            listed(alloc, [
-                block(1, value.bytes()),
-                int32(2, precision),
-                int32(3, scale),
-            ])
+            listed(
+                alloc,
+                [
+                    block(1, value.bytes()),
+                    int32(2, precision),
+                    int32(3, scale),
+                ],
+            )
         }
         _ => Ok(Vec::new(alloc)),
     }
@@ -401,5 +442,8 @@ pub(crate) fn literal_row_parts<'a>(
 ) -> Result<Vec<PartRef<'a>>, NoMemory>
     ensures { IfOk result (λ parts. parts_seen parts.items ≡ tables.literal_row_parts row.now) }
 {
-    listed(alloc, [messages(1, MessagesRef::Literal(row.fields.as_slice()))])
+    listed(
+        alloc,
+        [messages(1, MessagesRef::Literal(row.fields.as_slice()))],
+    )
 }

@@ -4,8 +4,8 @@ ghost use Rattle.plan_spell.specs.Parts.{parts_of};
 ghost use Rattle.spell_leaves.specs.Seen.{messages_seen, parts_seen};
 
 use crate::fields::item_at;
-use crate::part::{MessagesRef, PartRef};
 use crate::leaves;
+use crate::part::{MessagesRef, PartRef};
 use std::alloc::Global;
 use sub_types::NoMemory;
 
