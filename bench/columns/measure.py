@@ -1,16 +1,17 @@
 #!/usr/bin/env python3
-"""Measures the columns beside the same work in plain Rust: `python3 bench/columns/measure.py`.
+"""Measures the columns beside the same work in plain Rust: `python3 bench/columns/measure.py [numbers | texts]`.
 
-It copies the crates into a scratch folder, adds program.txt as a program over them, builds it with `rt try`,
+It copies the crates into a scratch folder, adds numbers.txt as a program over them, builds it with `rt try`,
 keeps the bitcode that this links, takes the interpreter's checks out of it, and builds it by clang -O3 for
-x86-64-v2, as `rt run` does with a proved program. plain.rs is built by rustc -O for the same processor. Both then
-run five times, one after the other, and each work's best time and ratio are printed.
+x86-64-v2, as `rt run` does with a proved program. numbers.rs is built by rustc -O for the same processor. Both then
+run five times, one after the other, and each work's best time and ratio are printed. Then texts.txt and texts.rs.
 """
 import os
 import re
 import shutil
 import signal
 import subprocess
+import sys
 import tempfile
 import time
 
@@ -34,7 +35,7 @@ def children(process):
     return found
 
 
-def workspace(scratch):
+def workspace(scratch, works):
     """A copy of the crates with the program among them."""
     crates = os.path.join(scratch, "crates")
     shutil.copytree(os.path.join(TOP, "crates"), crates, ignore=shutil.ignore_patterns("out"))
@@ -45,7 +46,7 @@ def workspace(scratch):
     shutil.copy(os.path.join(TOP, "HANDLES"), scratch)
     source = os.path.join(crates, NAME, "src")
     os.makedirs(source)
-    shutil.copy(os.path.join(HERE, "program.txt"), os.path.join(source, "main.rt"))
+    shutil.copy(os.path.join(HERE, works + ".txt"), os.path.join(source, "main.rt"))
     return os.path.join(crates, NAME)
 
 
@@ -128,22 +129,26 @@ def best(times, command):
         times[name] = min(times.get(name, int(number)), int(number))
 
 
-def main():
+def measure(works):
     with tempfile.TemporaryDirectory() as scratch:
         folder = os.path.join(scratch, "linked")
-        linked(workspace(scratch), folder)
+        linked(workspace(scratch, works), folder)
         program = build(folder)
         plain = os.path.join(scratch, "plain")
-        subprocess.run(["rustc", "-O", "-C", "target-cpu=x86-64-v2", "-o", plain, os.path.join(HERE, "plain.rs")],
+        subprocess.run(["rustc", "-O", "-C", "target-cpu=x86-64-v2", "-o", plain, os.path.join(HERE, works + ".rs")],
                        check=True)
         ours, theirs = {}, {}
         for _ in range(RUNS):
             best(ours, program)
             best(theirs, [plain])
-        print("work: nanoseconds here, in plain Rust, ratio, ratio to a copy of 8 KB here and in plain Rust")
+        print(f"{works}: nanoseconds here, in plain Rust, ratio, ratio to a copy of 8 KB here and in plain Rust")
         for name, number in theirs.items():
-            mine = ours[name]
-            print(f"{name}: {mine} {number} {mine / max(number, 1):.2f} {mine / ours['copy']:.2f} {mine / theirs['copy']:.2f}")
+            print(f"{name}: {ours[name]} {number} {ours[name] / number:.2f} {ours[name] / ours['copy']:.2f} {ours[name] / theirs['copy']:.2f}", flush=True)
+
+
+def main():
+    for works in sys.argv[1:] or ("numbers", "texts"):
+        measure(works)
 
 
 main()
