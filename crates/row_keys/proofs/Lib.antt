@@ -1,2 +1,3 @@
+mod HashLaws
 mod KeyLaws
 mod WrittenLaws
