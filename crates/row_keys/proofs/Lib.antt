@@ -1,3 +1,4 @@
 mod HashLaws
 mod KeyLaws
+mod SameLaws
 mod WrittenLaws

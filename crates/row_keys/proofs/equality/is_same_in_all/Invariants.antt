@@ -1,7 +1,7 @@
 use Rattle.std.proofs.Common.{◌≡◌, drop}
 use Rattle.plan_denote.specs.Distinct.{is_same_row}
 use Rattle.row_keys.specs.Keys.{key_of}
-use Rattle.row_keys.proofs.equality.same_keys.Given as goal
+use Rattle.row_keys.proofs.equality.is_same_in_all.Given as goal
 
 -- the columns that are left decide as all do
 abbrev pub invariant-loop-column : goal.invariant-loop-column
