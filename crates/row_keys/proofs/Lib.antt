@@ -1,0 +1,4 @@
+mod HashLaws
+mod KeyLaws
+mod SameLaws
+mod WrittenLaws

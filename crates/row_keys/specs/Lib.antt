@@ -1,0 +1,3 @@
+pub mod KeyBytes
+pub mod KeyHash
+pub mod Keys
