@@ -1,12 +1,12 @@
 -- Results of all rows at once.
-use Rattle.std.proofs.Common.{◌≡◌, ◌∙◌, ℕ, zero, suc, ◌+◌, ◌<◌, ◌≤◌, ℤ, List, [], ◌∷◌, Bool, true, false, ◌&&◌, ◌||◌, cond, length, map, get_or, set, take, Option, Some, None, is_some, unwrap_or, option_map, Ok, Result, inl, inr, FitsSigned, refl, sym, ap, ap₂, subst, arith}
+use Rattle.std.proofs.Common.{◌≡◌, ◌∙◌, ℕ, zero, suc, ◌+◌, ◌<◌, ◌≤◌, ℤ, List, [], ◌∷◌, Bool, true, false, ◌&&◌, ◌||◌, cond, length, map, get_or, set, take, replicate, Option, Some, None, is_some, unwrap_or, option_map, Ok, Result, inl, inr, FitsSigned, refl, sym, ap, ap₂, subst, arith}
 use Rattle.std.specs.Prelude.{int_lt}
 use Rattle.std.specs.Bool.{FalseIff}
 use Rattle.std.specs.Int.{Width, int_wrap}
 use Rattle.std.specs.List.{range_with_len}
 use Rattle.std.proofs.lemmas.Bool.{cases_lt}
 use Rattle.std.proofs.lemmas.Int.{int_wrap_fits}
-use Rattle.std.proofs.lemmas.List.{get_or-set_same, get_or-set_other, length-set, get_or-map, length-map, take_more, take_all}
+use Rattle.std.proofs.lemmas.List.{get_or-set_same, get_or-set_other, length-set, get_or-map, length-map, take_more, take_all, get_or-replicate, length-replicate}
 use Rattle.sub_types.specs.declared.fault.FaultKind.{FaultKind}
 use Rattle.sub_types.specs.BitSteps.{both}
 use Rattle.sub_types.specs.Optional.{optional}
@@ -144,4 +144,47 @@ module _ {T : Type 0} (op : ArithOp) (mode : Overflow) (w : Width) (number : T �
           let flags = get_or-both (map is_some a) (map is_some b) k (length-map a is_some ∙ same ∙ sym (length-map b is_some)) ∙ ap₂ ◌&&◌ (there a k lt) (there b k (omega arith)) in
           place (get_or a k None) (get_or b k None) (get_or values k filler) held
           ∙ ap (λ value. Ok (option_map number value)) (sym (at_column k (is_some (get_or a k None) && is_some (get_or b k None)) flags))
+          ∙ ap Ok (sym (get_or-map (option_map number) column k None None (omega (arith, long))))
+
+  -- the same with a constant
+  pub rows-all_constant : (a : List (Option T)) (constant : T) (values : List T) → AreResults op number filler least greatest (slots filler a) (replicate (length (slots filler a)) constant) values (length (slots filler a))
+      → until (λ i. row op mode w (number least) (number greatest) (option_map number (get_or a i None)) (Some (number constant))) (range_with_len 0 (length a))
+      ≡ record { values = map (option_map number) (optional values (map is_some a)); stop = Never }
+  rows-all_constant a constant values are =
+      until-all (λ i. row op mode w (number least) (number greatest) (option_map number (get_or a i None)) (Some (number constant))) (length a) (map (option_map number) column) None (length-map column (option_map number) ∙ long) each
+    where
+      valid : List Bool
+      valid = map is_some a
+
+      column : List (Option T)
+      column = optional values valid
+
+      long_values : length values ≡ length a
+      long_values = are.long ∙ length-slots filler a
+
+      long_valid : length values ≡ length valid
+      long_valid = long_values ∙ sym (length-map a is_some)
+
+      long : length column ≡ length a
+      long = length-optional values valid long_valid ∙ long_values
+
+      at_column : (k : ℕ) (v : Bool) → get_or valid k false ≡ v → get_or column k None ≡ cond v (Some (get_or values k filler)) None
+      at_column k true e = get_or-optional_valid values valid k filler long_valid e
+      at_column k false e = get_or-optional_null values valid k e
+
+      and_true : (v : Bool) → v ≡ (v && true)
+      and_true true = refl
+      and_true false = refl
+
+      each : (k : ℕ) → k < length a → row op mode w (number least) (number greatest) (option_map number (get_or a k None)) (Some (number constant)) ≡ Ok (get_or (map (option_map number) column) k None)
+      each k lt =
+          let ours : k < length (slots filler a) = let l = length-slots filler a in omega arith in
+          let result = are.results k ours in
+          let at_a = get_or-map (λ value. unwrap_or value filler) a k None filler lt in
+          let at_b = get_or-replicate (length (slots filler a)) k constant filler ours in
+          let held = subst (λ y. IsResult op (number least) (number greatest) (number (unwrap_or (get_or a k None) filler)) (number y) (number (get_or values k filler))) at_b
+          (subst (λ x. IsResult op (number least) (number greatest) (number x) (number (get_or (replicate (length (slots filler a)) constant) k filler)) (number (get_or values k filler))) at_a result) in
+          let flags = get_or-map is_some a k None false lt ∙ and_true (is_some (get_or a k None)) in
+          place (get_or a k None) (Some constant) (get_or values k filler) held
+          ∙ ap (λ value. Ok (option_map number value)) (sym (at_column k (is_some (get_or a k None) && true) flags))
           ∙ ap Ok (sym (get_or-map (option_map number) column k None None (omega (arith, long))))

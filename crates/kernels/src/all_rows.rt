@@ -1,5 +1,5 @@
 //! Sums, differences and products of all rows at once, as long as none is beyond the range. A null counts as 0 meanwhile.
-ghost use Rattle.std.specs.Prelude.{◌≡◌, ◌||◌, false, length, int_lt, IfOk, IfSome};
+ghost use Rattle.std.specs.Prelude.{◌≡◌, ◌||◌, false, length, replicate, int_lt, IfOk, IfSome};
 ghost use Rattle.kernels.specs.Arith as spec;
 
 use crate::ArithOp;
@@ -22,6 +22,29 @@ pub(crate) fn compute_all<T: Native>(
     let mut lost = false;
     for i in 0..a.len() {
         let (value, is_lost) = combine(op, a[i], b[i]);
+        values[i] = value;
+        lost = lost | is_lost | is_beyond(value, range);
+    }
+    if lost {
+        return Ok(None);
+    }
+    Ok(Some(values))
+}
+
+/// The same of all numbers with a constant on their right.
+pub(crate) fn compute_all_constant<T: Native>(
+    alloc: Global,
+    op: ArithOp,
+    range: (T, T),
+    a: &[T],
+    constant: T,
+) -> Result<Option<Vec<T>>, NoMemory>
+    ensures { IfOk result (λ all. IfSome all (λ values. spec.AreResults op T.number T.zero range.0 range.1 a.now (replicate (length a.now) constant) values.items (length a.now))) }
+{
+    let mut values = vec![in alloc; T::zero(); a.len()]?;
+    let mut lost = false;
+    for i in 0..a.len() {
+        let (value, is_lost) = combine(op, a[i], constant);
         values[i] = value;
         lost = lost | is_lost | is_beyond(value, range);
     }

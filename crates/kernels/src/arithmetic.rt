@@ -10,8 +10,8 @@ ghost use Rattle.kernels.specs.Numbers as numbers;
 ghost use Rattle.kernels.specs.Arith as spec;
 ghost use Rattle.kernels.specs.Until.{Until, until};
 
-use crate::all_rows::compute_all;
-use crate::comparison::both_valid;
+use crate::all_rows::{compute_all, compute_all_constant};
+use crate::comparison::{both_valid, validity};
 use crate::{ArithOp, Stop};
 use col_fixed::{Fixed, FixedBuilder, Native, View};
 use plan_typed::Overflow;
@@ -59,7 +59,7 @@ pub fn arith_constant<T: Native>(
         until (λ i. calls.binary (spec.func_of op) (kinds.Decimal precision scale) mode (kinds.Decimal precision scale ∷ kinds.Decimal precision scale ∷ []) (numbers.dec_of T.number (slice_index_or a.entry i None)) (numbers.dec_of T.number (Some constant))) (range_with_len 0 (length a.entry))
         ≡ record { values = numbers.decs T.number answer.0; stop = answer.1 }) }
 {
-    let column = compute_rows_constant(alloc, op, mode, (least, greatest), &a, constant)?;
+    let column = compute_column(alloc, op, mode, (least, greatest), &a, constant)?;
     Ok(column)
 }
 
@@ -118,6 +118,28 @@ fn compute_rows<T: Native>(
         }
     }
     Ok((column.finish(), Stop::Never))
+}
+
+// All rows at once, and row by row where one of them is beyond the range, whether or not it is null.
+fn compute_column<T: Native>(
+    alloc: Global,
+    op: ArithOp,
+    mode: Overflow,
+    range: (T, T),
+    a: &View<'_, T>,
+    constant: T,
+) -> Result<(Fixed<T>, Stop), NoMemory>
+    ensures { IfOk result (λ answer. until (λ i. spec.row op mode T.width (T.number range.0) (T.number range.1) (option_map T.number (slice_index_or a.now i None)) (Some (T.number constant))) (range_with_len 0 (length a.now))
+        ≡ record { values = map (option_map T.number) answer.0; stop = answer.1 }) }
+{
+    if is_division(op) {
+        return compute_rows_constant(alloc, op, mode, range, a, constant);
+    }
+    let Some(values) = compute_all_constant(alloc, op, range, a.values(), constant)? else {
+        return compute_rows_constant(alloc, op, mode, range, a, constant);
+    };
+    let valid = validity(alloc, a)?;
+    Ok((Fixed::from_parts(values, valid), Stop::Never))
 }
 
 fn compute_rows_constant<T: Native>(

@@ -82,7 +82,7 @@ pub(crate) fn both_valid<T: Native>(
 }
 
 // Which values are there, from the first bit on.
-fn validity<T: Native>(alloc: Global, a: &View<'_, T>) -> Result<Bits, NoMemory>
+pub(crate) fn validity<T: Native>(alloc: Global, a: &View<'_, T>) -> Result<Bits, NoMemory>
     ensures { IfOk result (λ bits. bits ≡ map is_some a.now) }
 {
     let (bits, from, to) = a.validity();
