@@ -6,18 +6,17 @@ use Rattle.std.specs.Int.{Width, int_wrap}
 use Rattle.std.specs.List.{range_with_len}
 use Rattle.std.proofs.lemmas.Bool.{cases_lt}
 use Rattle.std.proofs.lemmas.Int.{int_wrap_fits}
-use Rattle.std.proofs.lemmas.List.{get_or-set_same, get_or-set_other, length-set, get_or-map, length-map, take_more, take_all, get_or-replicate, length-replicate}
+use Rattle.std.proofs.lemmas.List.{get_or-set_same, get_or-set_other, length-set, get_or-map, length-map, take_more, take_all, get_or-replicate}
 use Rattle.sub_types.specs.declared.fault.FaultKind.{FaultKind}
 use Rattle.sub_types.specs.BitSteps.{both}
 use Rattle.sub_types.specs.Optional.{optional}
 use Rattle.sub_types.specs.OptionalLaws.{get_or-optional_valid, get_or-optional_null, length-optional}
 use Rattle.sub_types.specs.Slots.{slots, length-slots}
 use Rattle.plan_typed.specs.declared.expr.Overflow.{Overflow}
-use Rattle.plan_denote.specs.Whole as whole
 use Rattle.kernels.specs.declared.op.ArithOp.{ArithOp}
 use Rattle.kernels.specs.declared.selection.Stop.TheVariants.{Never}
-use Rattle.kernels.specs.Arith.{divides, exact, settled, computed, some_of, row, IsResult, AreResults}
-use Rattle.kernels.specs.Until.{Until, step, until}
+use Rattle.kernels.specs.Arith.{divides, exact, row, IsResult, AreResults}
+use Rattle.kernels.specs.Until.{until}
 use Rattle.kernels.proofs.CompareLaws.{length-both_valid}
 use Rattle.kernels.proofs.UntilLaws.{IsSoFar, IsSoFar-none, IsSoFar-more, IsSoFar-end}
 

@@ -1,7 +1,7 @@
 -- Arithmetic with bounded results: the definitions of the plan, and the forms that the code computes.
-use Rattle.std.proofs.Common.{◌≡◌, ◌∙◌, ℕ, zero, suc, ◌+◌, ◌-◌, ◌*◌, ◌^◌, ◌<◌, ◌≤◌, ℤ, pos, negsuc, neg_ℤ, ◌/◌, ◌⊎◌, ◌<ℤ◌, ◌≤ℤ◌, ◌+ℤ◌, ◌-ℤ◌, ◌*ℤ◌, List, [], ◌∷◌, Bool, true, false, ltb, leb, min, map, Option, Some, None, option_map, Result, Ok, Err, inl, inr, FitsSigned, refl, sym, ap, ap₂, arith, lit<}
+use Rattle.std.proofs.Common.{◌≡◌, ◌∙◌, ℕ, zero, suc, ◌-◌, ◌^◌, ◌<◌, ◌≤◌, ℤ, pos, negsuc, neg_ℤ, ◌/◌, ◌⊎◌, ◌<ℤ◌, ◌≤ℤ◌, ◌+ℤ◌, ◌-ℤ◌, ◌*ℤ◌, [], ◌∷◌, Bool, true, false, ltb, min, Option, Some, None, Result, Ok, Err, inl, inr, FitsSigned, refl, sym, ap, ap₂, arith, lit<}
 use Rattle.std.specs.Prelude.{int_lt, int_div, int_rem, unsigned_abs, if◌then◌else◌, ◌&&◌}
-use Rattle.std.specs.Int.{Width, w8, w16, w32, w64, w128, int_wrap}
+use Rattle.std.specs.Int.{Width, w8, w16, w32, w64, w128}
 use Rattle.std.proofs.lemmas.Int.{ints, fits_signed_from_abs, fits_signed_mul, rem_below}
 use Rattle.std.proofs.lemmas.Bool.{cases_lt, le-leb, lt-ltb, le-ltb, ltb-false}
 use Rattle.std.proofs.Math.Nat.{one-le-pow, div-le_self}
@@ -9,7 +9,6 @@ use mir.Val.{bits, hbits}
 use Rattle.sub_types.specs.declared.kind.Kind.{Kind}
 use Rattle.sub_types.specs.declared.fault.FaultKind.{FaultKind}
 use Rattle.sub_types.specs.declared.fault.FaultKind.TheVariants as faults
-use Rattle.sub_types.specs.declared.value.Value.{Value}
 use Rattle.sub_types.specs.declared.value.Value.TheVariants as values
 use Rattle.sub_types.specs.declared.kind.Kind.TheVariants as kinds
 use Rattle.sub_types.specs.Nullable.{int_value, dec_value}

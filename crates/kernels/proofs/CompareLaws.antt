@@ -1,11 +1,10 @@
 -- Comparisons of numbers, eight at a time.
-use Rattle.std.proofs.Common.{◌≡◌, ◌∙◌, ℕ, zero, suc, ◌+◌, ◌-◌, ◌*◌, ◌/◌, ◌%◌, ◌^◌, ◌<◌, ◌≤◌, ℤ, List, [], ◌∷◌, ◌++◌, Bool, true, false, not, ◌&&◌, length, map, get_or, take, drop, min, cond, replicate, nat_eq, Option, Some, None, is_some, unwrap_or, Ok, inl, inr, refl, sym, ap, ap₂, subst, arith}
+use Rattle.std.proofs.Common.{◌≡◌, ◌∙◌, ℕ, zero, suc, ◌+◌, ◌-◌, ◌*◌, ◌/◌, ◌%◌, ◌^◌, ◌<◌, ◌≤◌, ℤ, List, [], ◌∷◌, ◌++◌, Bool, true, false, not, length, map, get_or, take, drop, min, cond, replicate, nat_eq, Option, Some, None, is_some, Ok, inl, inr, refl, sym, ap, ap₂, arith}
 use Rattle.std.specs.Int.{bit_at}
 use Rattle.std.specs.List.{range_with_len, slice_range}
 use Rattle.std.specs.declared.cmp.Ordering.{Ordering}
 use Rattle.std.specs.declared.cmp.Ordering.TheVariants.{Less, Equal, Greater}
 use Rattle.std.specs.Ordering.{int_cmp, ordering_then, ordering_reverse, is_eq, is_ne, is_lt, is_le, is_gt, is_ge}
-use Rattle.std.specs.Cmp.{IsTotalOrder}
 use Rattle.std.proofs.lemmas.Cmp.{int_cmp_total}
 use Rattle.std.proofs.Math.Nat.{pow-succ'}
 use Rattle.std.proofs.lemmas.Bool.{cases_lt}
@@ -17,14 +16,12 @@ use Rattle.sub_types.specs.Bits.{bit_of, bits_of, IsPacked}
 use Rattle.sub_types.specs.BitSteps.{both}
 use Rattle.sub_types.specs.Optional.{optional}
 use Rattle.sub_types.specs.Slots.{slots, length-slots}
-use Rattle.sub_types.specs.Nullable.{bool_value}
-use Rattle.sub_types.specs.declared.value.Value.{Value}
 use Rattle.sub_types.specs.declared.value.Value.TheVariants as values
 use Rattle.plan_denote.specs.Computed.{Computed}
 use Rattle.plan_denote.specs.Logic as spec
 use Rattle.plan_denote.specs.Order.{value_cmp}
 use Rattle.kernels.specs.declared.op.CompareOp.{CompareOp}
-use Rattle.kernels.specs.declared.op.CompareOp.TheVariants.{Eq, Ne, Lt, Le, Gt, Ge}
+use Rattle.kernels.specs.declared.op.CompareOp.TheVariants.{Ne, Le, Gt, Ge}
 use Rattle.kernels.specs.Numbers.{test_of, holds, compared, int_of, dec_of, ints, decs}
 use Rattle.kernels.proofs.TruthLaws.{result}
 

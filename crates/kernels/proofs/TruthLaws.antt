@@ -1,6 +1,6 @@
 -- Three-valued logic on the bits of bytes.
-use Rattle.std.proofs.Common.{◌≡◌, ◌∙◌, ℕ, zero, suc, ◌+◌, ◌-◌, ◌*◌, ◌/◌, ◌%◌, ◌^◌, ◌<◌, ◌≤◌, List, [], ◌∷◌, ◌++◌, Bool, true, false, not, ◌&&◌, ◌||◌, length, map, get_or, nat_eq, min, max, bit_and, bit_or, bit_xor, cond, Option, Some, None, is_some, Result, Ok, Err, IfOk, inl, inr, refl, sym, ap, ap₂, arith}
-use Rattle.std.specs.Int.{bit_at, bit_not, w8}
+use Rattle.std.proofs.Common.{◌≡◌, ◌∙◌, ℕ, zero, suc, ◌+◌, ◌-◌, ◌*◌, ◌/◌, ◌%◌, ◌<◌, ◌≤◌, List, [], ◌∷◌, ◌++◌, Bool, true, false, not, ◌&&◌, ◌||◌, length, map, get_or, nat_eq, min, max, bit_and, bit_or, bit_xor, cond, Option, Some, None, is_some, Result, Ok, Err, IfOk, inl, inr, refl, sym, ap, ap₂, arith}
+use Rattle.std.specs.Int.{bit_at, w8}
 use Rattle.std.specs.List.{range_with_len}
 use Rattle.std.proofs.lemmas.Nat.Bits.{bit_at-lt, bit_at_and, bit_at_or, bit_at_xor, bit_at_not}
 use Rattle.std.proofs.lemmas.Bool.{cases_lt}
@@ -12,8 +12,6 @@ use Rattle.sub_types.specs.Bits.{bit_of, bits_of, IsPacked}
 use Rattle.sub_types.specs.Optional.{optional}
 use Rattle.sub_types.specs.Slots.{slots, optional-slots, length-slots}
 use Rattle.sub_types.specs.Nullable.{bool_value}
-use Rattle.sub_types.specs.declared.value.Value.{Value}
-use Rattle.sub_types.specs.declared.fault.FaultKind.{FaultKind}
 use Rattle.plan_denote.specs.Logic.{three_valued, xor_of, not_of}
 use Rattle.plan_denote.specs.Computed.{Computed}
 use Rattle.kernels.specs.Truths.{is_set, truth_at, both, either, differ, opposite}

@@ -1,9 +1,8 @@
 -- Rows evaluated in order, by a loop.
-use Rattle.std.proofs.Common.{◌≡◌, ◌∙◌, ℕ, zero, suc, ◌+◌, ◌-◌, ◌<◌, ◌≤◌, List, [], ◌∷◌, ◌++◌, map, Result, Ok, Err, refl, sym, ap, ap₂, subst, arith, append_assoc, add-one}
+use Rattle.std.proofs.Common.{◌≡◌, ◌∙◌, ℕ, suc, ◌+◌, ◌-◌, ◌<◌, ◌≤◌, List, [], ◌∷◌, ◌++◌, map, Result, Ok, Err, refl, sym, ap, ap₂, arith, append_assoc}
 use Rattle.std.specs.List.{range_with_len}
 use Rattle.std.proofs.lemmas.List.{append-nil}
 use Rattle.sub_types.specs.declared.fault.FaultKind.{FaultKind}
-use Rattle.kernels.specs.declared.selection.Stop.{Stop}
 use Rattle.kernels.specs.declared.selection.Stop.TheVariants.{Never, At}
 use Rattle.kernels.specs.Until.{Until, step, until}
 

@@ -1,4 +1,3 @@
-use Rattle.std.specs.Int.{int_wrap}
 use Rattle.kernels.proofs.AllLaws.{not_lost}
 use Rattle.kernels.proofs.all_rows.combine.Goals as goal
 

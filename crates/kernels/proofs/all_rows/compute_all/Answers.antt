@@ -1,4 +1,4 @@
-use Rattle.std.proofs.Common.{◌≡◌, arith}
+use Rattle.std.proofs.Common.{arith}
 use Rattle.kernels.proofs.AllLaws.{KeepsResults-none, KeepsResults-more}
 use Rattle.kernels.proofs.all_rows.compute_all.Goals as goal
 

@@ -1,4 +1,4 @@
-use Rattle.std.proofs.Common.{◌≡◌, length, replicate, sym, arith}
+use Rattle.std.proofs.Common.{length, replicate, sym, arith}
 use Rattle.std.proofs.lemmas.List.{get_or-replicate, length-replicate}
 use Rattle.kernels.proofs.AllLaws.{KeepsResults-none, KeepsResults-more}
 use Rattle.kernels.proofs.all_rows.compute_all_constant.Goals as goal

@@ -1,12 +1,10 @@
-use Rattle.std.proofs.Common.{◌≡◌, ◌∙◌, ◌∷◌, [], ℕ, Option, None, Some, get_or, map, option_map, length, sym, ap}
+use Rattle.std.proofs.Common.{◌∙◌, ◌∷◌, [], ℕ, None, Some, get_or, map, option_map, length, sym, ap}
 use Rattle.std.specs.List.{range_with_len}
 use Rattle.std.proofs.lemmas.Simd.{map-map}
 use Rattle.sub_types.specs.Nullable.{int_value, dec_value}
 use Rattle.sub_types.specs.declared.kind.Kind.TheVariants as kinds
 use Rattle.plan_denote.specs.Calls.{binary}
 use Rattle.kernels.specs.Arith.{row, func_of}
-use Rattle.kernels.specs.Numbers.{int_of}
-use Rattle.kernels.specs.Until.{Until, until}
 use Rattle.kernels.proofs.UntilLaws.{until-same, until-mapped}
 use Rattle.kernels.proofs.ArithLaws.{value, decimal_value, row-whole, row-decimal}
 use Rattle.kernels.proofs.arithmetic.arith_constant.Goals as goal

@@ -1,7 +1,7 @@
-use Rattle.std.proofs.Common.{◌≡◌, ◌∙◌, List, length, map, is_some, option_map, replicate, sym, ap, subst, arith}
+use Rattle.std.proofs.Common.{◌∙◌, List, length, map, is_some, option_map, replicate, sym, ap, subst, arith}
 use Rattle.std.proofs.lemmas.List.{length-map}
 use Rattle.sub_types.specs.Optional.{optional}
-use Rattle.sub_types.specs.Slots.{slots, length-slots}
+use Rattle.sub_types.specs.Slots.{length-slots}
 use Rattle.kernels.specs.Arith.{AreResults}
 use Rattle.kernels.specs.declared.selection.Stop.TheVariants.{Never}
 use Rattle.kernels.proofs.AllLaws.{rows-all_constant}

@@ -1,4 +1,4 @@
-use Rattle.std.proofs.Common.{◌≡◌, ◌∙◌, List, length, map, option_map, sym, ap, subst, arith}
+use Rattle.std.proofs.Common.{◌∙◌, List, length, map, option_map, sym, ap, subst, arith}
 use Rattle.sub_types.specs.Optional.{optional}
 use Rattle.sub_types.specs.Slots.{slots, length-slots}
 use Rattle.kernels.specs.Arith.{AreResults}

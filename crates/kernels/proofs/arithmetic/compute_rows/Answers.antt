@@ -1,7 +1,6 @@
-use Rattle.std.proofs.Common.{◌≡◌, ◌∙◌, ◌+◌, ◌∷◌, [], ◌++◌, ℕ, Ok, Err, None, get_or, map, option_map, length, sym, ap, ap₂, subst, arith}
+use Rattle.std.proofs.Common.{◌≡◌, ◌∙◌, ◌+◌, ◌∷◌, [], ℕ, Ok, Err, None, get_or, map, option_map, length, sym, ap, ap₂, subst, arith}
 use Rattle.std.proofs.lemmas.List.{map-append}
 use Rattle.kernels.specs.Arith.{row, rows_number}
-use Rattle.kernels.specs.declared.selection.Stop.TheVariants.{At}
 use Rattle.kernels.proofs.UntilLaws.{IsSoFar, IsSoFar-more, IsSoFar-fault}
 use Rattle.kernels.proofs.arithmetic.compute_rows.Goals as goal
 

@@ -1,4 +1,4 @@
-use Rattle.std.proofs.Common.{ℕ, get_or, map, length, None, Some, option_map}
+use Rattle.std.proofs.Common.{get_or, map, length, None, Some, option_map}
 use Rattle.kernels.specs.Arith.{row}
 use Rattle.kernels.proofs.UntilLaws.{IsSoFar}
 use Rattle.kernels.proofs.arithmetic.compute_rows_constant.Given as goal

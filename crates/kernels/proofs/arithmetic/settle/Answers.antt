@@ -1,4 +1,4 @@
-use Rattle.std.proofs.Common.{◌≡◌, ◌∙◌, false, sym, ap, ap₂, to_z, of_z}
+use Rattle.std.proofs.Common.{◌≡◌, ◌∙◌, false, sym, ap, ap₂}
 use Rattle.std.specs.Prelude.{int_lt}
 use Rattle.std.specs.Int.{w128, int_wrap}
 use Rattle.std.proofs.lemmas.Int.{to_z-of_z, int_wrap_fits}

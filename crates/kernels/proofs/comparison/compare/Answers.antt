@@ -1,4 +1,4 @@
-use Rattle.std.proofs.Common.{map, Some}
+use Rattle.std.proofs.Common.{map}
 use lib.Lanes.{zip2}
 use Rattle.kernels.specs.Numbers.{compared}
 use Rattle.kernels.proofs.CompareLaws.{ints_compared, decs_compared}

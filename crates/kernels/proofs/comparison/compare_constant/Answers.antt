@@ -1,5 +1,4 @@
 use Rattle.std.proofs.Common.{map, Some}
-use lib.Lanes.{zip2}
 use Rattle.kernels.specs.Numbers.{compared}
 use Rattle.kernels.proofs.CompareLaws.{ints_compared_constant, decs_compared_constant}
 use Rattle.kernels.proofs.TruthLaws.{known, result}

@@ -1,7 +1,7 @@
-use Rattle.std.proofs.Common.{◌≡◌, ◌∙◌, length, map, is_some, sym, ap, ap₂, arith}
+use Rattle.std.proofs.Common.{◌∙◌, length, map, is_some, sym, ap, ap₂}
 use Rattle.std.proofs.lemmas.List.{length-map}
 use Rattle.sub_types.specs.Optional.{optional}
-use Rattle.sub_types.specs.Slots.{slots, length-slots}
+use Rattle.sub_types.specs.Slots.{length-slots}
 use Rattle.kernels.specs.Numbers.{holds}
 use Rattle.kernels.proofs.CompareLaws.{optional-compared_constant}
 use Rattle.kernels.proofs.comparison.compare_view.Goals as goal

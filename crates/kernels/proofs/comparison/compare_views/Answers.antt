@@ -1,9 +1,7 @@
-use Rattle.std.proofs.Common.{◌≡◌, ◌∙◌, length, map, is_some, sym, ap, ap₂, arith}
+use Rattle.std.proofs.Common.{◌∙◌, length, sym, ap, ap₂}
 use lib.Lanes.{zip2}
-use Rattle.std.proofs.lemmas.Simd.{length-zip2}
-use Rattle.sub_types.specs.BitSteps.{both}
 use Rattle.sub_types.specs.Optional.{optional}
-use Rattle.sub_types.specs.Slots.{slots, length-slots}
+use Rattle.sub_types.specs.Slots.{length-slots}
 use Rattle.kernels.specs.Numbers.{holds}
 use Rattle.kernels.proofs.CompareLaws.{optional-compared, length-both_valid, length-tests}
 use Rattle.kernels.proofs.comparison.compare_views.Goals as goal

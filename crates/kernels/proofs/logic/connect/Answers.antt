@@ -1,7 +1,4 @@
-use Rattle.std.proofs.Common.{◌≡◌, ◌∙◌, ℕ, ◌≤◌, ◌<◌, ◌+◌, ◌*◌, length, false, ap, sym, subst, arith}
-use Rattle.sub_types.specs.Bits.{bits_of}
-use Rattle.sub_types.specs.Slots.{length-slots}
-use Rattle.sub_types.specs.Optional.{optional}
+use Rattle.std.proofs.Common.{◌≡◌, ◌∙◌, length, sym, subst, arith}
 use Rattle.kernels.specs.Truths.{connected}
 use Rattle.kernels.proofs.TruthLaws.{Reaches, Reaches-more, Reaches-none, connected_columns, length-packed, packed, bits_of_values, bits_of_valid}
 use Rattle.kernels.proofs.logic.connect.Goals as goal

@@ -1,6 +1,6 @@
-use Rattle.std.proofs.Common.{◌≡◌, ◌∙◌, length, take, true, ap, subst, arith}
+use Rattle.std.proofs.Common.{◌≡◌, ◌∙◌, ap, arith}
 use Rattle.std.specs.List.{filter, range_with_len}
-use Rattle.sub_types.specs.Bits.{bit_of, bits_of}
+use Rattle.sub_types.specs.Bits.{bit_of}
 use Rattle.kernels.specs.Rising.{rises}
 use Rattle.kernels.proofs.PlaceLaws.{Finds-more, true_places, rises-filter}
 use Rattle.kernels.proofs.TruthLaws.{bits_of_values}

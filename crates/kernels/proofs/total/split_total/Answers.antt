@@ -1,8 +1,8 @@
-use Rattle.std.proofs.Common.{◌≡◌, ◌∙◌, ◌+ℤ◌, take, sym, ap, subst, arith}
+use Rattle.std.proofs.Common.{◌∙◌, take, arith}
 use Rattle.std.specs.Int.{w128}
 use Rattle.std.proofs.lemmas.Int.{to_z-of_z}
 use Rattle.kernels.specs.Total.{total}
-use Rattle.kernels.proofs.TotalLaws.{Splits, Splits-none, Splits-more, quotient_fits, remainder_fits, carried, carried_fits, held_remainder, total-more, total-all}
+use Rattle.kernels.proofs.TotalLaws.{Splits-none, Splits-more, quotient_fits, remainder_fits, carried, held_remainder, total-more, total-all}
 use Rattle.kernels.proofs.total.split_total.Goals as goal
 
 pub overflow_add-quotient : goal.overflow_add-quotient
