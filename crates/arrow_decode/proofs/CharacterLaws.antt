@@ -1,10 +1,11 @@
 -- UTF-8 of texts that stand one behind the other.
-use Rattle.std.proofs.Common.{◌≡◌, ◌∙◌, ◌↔◌, ℕ, zero, suc, ◌+◌, ◌<◌, List, [], ◌∷◌, ◌++◌, length, take, Bool, true, false, Option, Some, None, IsTrue, refl, sym, subst, arith, length-append, slice_index}
+use Rattle.std.proofs.Common.{rules, tests, ◌≡◌, ◌∙◌, ◌↔◌, ℕ, zero, suc, ◌+◌, ◌<◌, ◌≤◌, List, [], ◌∷◌, ◌++◌, length, take, Bool, true, false, Option, Some, None, IsTrue, refl, sym, subst, arith, length-append, slice_index}
+use Rattle.std.specs.Char.{is_ascii}
 use Rattle.std.specs.List.{concat, list_all}
-use Rattle.std.specs.Str.{IsUtf8, is_utf8, IsCharBoundary}
+use Rattle.std.specs.Str.{IsUtf8, is_utf8, IsAscii, IsCharBoundary}
 use Rattle.std.proofs.lemmas.Bool.{false_from_ne_true}
 use Rattle.std.proofs.lemmas.List.{take_at, drop_at, append-nil, get_or-append-add}
-use Rattle.std.proofs.lemmas.Str.{IsUtf8-nil, IsUtf8-append, IsUtf8-take, IsUtf8-drop, IsUtf8-from_is_utf8, is_utf8-from_IsUtf8, IsCharBoundary-end, IsCharBoundary-start}
+use Rattle.std.proofs.lemmas.Str.{IsUtf8-nil, IsUtf8-append, IsUtf8-take, IsUtf8-drop, IsUtf8-from_is_utf8, is_utf8-from_IsUtf8, IsCharBoundary-end, IsCharBoundary-start, IsCharBoundary-from_ascii}
 use Rattle.sub_types.specs.Slots.{slots}
 use Rattle.col_text.specs.Text.{offset_of}
 use Rattle.arrow_meta.specs.Values.{is_text}
@@ -72,3 +73,24 @@ same_texts column false whole test = sym (false_from_ne_true (list_all is_text c
 
 pub no_texts : (column : List (Option (List ℕ))) → ¬ (IsUtf8 (concat (slots [] column))) → false ≡ list_all is_text column
 no_texts column broken = sym (false_from_ne_true (list_all is_text column) (λ all. broken (joined_utf8 column all)))
+
+-- no text begins behind all of them
+offset_within : (texts : List (List ℕ)) (i : ℕ) → offset_of texts i ≤ length (concat texts)
+offset_within texts zero = omega arith
+offset_within [] (suc i) = omega arith
+offset_within (text ∷ texts) (suc i) =
+    let rest = offset_within texts i in
+    let behind = offset_behind text texts i in
+    let whole = length-append text (concat texts) in
+    omega (arith, rest, behind, whole)
+
+each_ascii : (bytes : List ℕ) → list_all is_ascii bytes ≡ true → IsAscii bytes
+each_ascii [] all i = omega arith
+each_ascii (byte ∷ bytes) all zero = search (rules, tests, and_left (is_ascii byte) (list_all is_ascii bytes) all)
+each_ascii (byte ∷ bytes) all (suc i) = each_ascii bytes (and_right (is_ascii byte) (list_all is_ascii bytes) all) i
+
+-- in ASCII a character begins anywhere
+pub begin_in_ascii : (column : List (Option (List ℕ))) → list_all is_ascii (concat (slots [] column)) ≡ true → BeginAtCharacters column
+begin_in_ascii column all i below =
+    let bytes = concat (slots [] column) in
+    IsCharBoundary-from_ascii bytes (offset_of (slots [] column) i) (each_ascii bytes all) (offset_within (slots [] column) i)

@@ -7,3 +7,4 @@ pub mod InKindLaws
 pub mod LengthLaws
 pub mod ChunkLaws
 pub mod CharacterLaws
+pub mod NullLaws

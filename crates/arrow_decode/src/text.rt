@@ -1,5 +1,6 @@
 // Columns of texts and binaries.
 ghost use Rattle.std.specs.Prelude.{◌≡◌, ◌↔◌, ◌+◌, ◌-◌, ◌*◌, ◌/◌, ◌%◌, ◌<◌, ◌≤◌, ◌^◌, length, vec_len, map, min, [], IfOk, IsTrue, option_copied};
+ghost use Rattle.std.specs.Char.{is_ascii};
 ghost use Rattle.std.specs.List.{concat, list_all, slice_range};
 ghost use Rattle.std.specs.Simd.{first_chunks};
 ghost use Rattle.byteorder.specs.Endian.{little_number};
@@ -129,10 +130,10 @@ fn read_wide_ends(alloc: Global, begin: usize, buffer: &[u8]) -> Result<Vec<usiz
         (first_chunks 8 (length buffer.now / 8) buffer.now)) }
 {
     let (chunks, _) = buffer.as_chunks::<8>();
-    let ends = chunks
-        .iter()
-        .map(|chunk| (LittleEndian::read_u64(chunk) as usize).wrapping_sub(begin))
-        .collect(alloc)?;
+    let mut ends = Vec::with_capacity(alloc, chunks.len())?;
+    for chunk in chunks {
+        ends.push_reserved((LittleEndian::read_u64(chunk) as usize).wrapping_sub(begin));
+    }
     Ok(ends)
 }
 
@@ -141,10 +142,10 @@ fn read_short_ends(alloc: Global, begin: usize, buffer: &[u8]) -> Result<Vec<usi
         (first_chunks 4 (length buffer.now / 4) buffer.now)) }
 {
     let (chunks, _) = buffer.as_chunks::<4>();
-    let ends = chunks
-        .iter()
-        .map(|chunk| (LittleEndian::read_u32(chunk) as usize).wrapping_sub(begin))
-        .collect(alloc)?;
+    let mut ends = Vec::with_capacity(alloc, chunks.len())?;
+    for chunk in chunks {
+        ends.push_reserved((LittleEndian::read_u32(chunk) as usize).wrapping_sub(begin));
+    }
     Ok(ends)
 }
 
@@ -152,13 +153,14 @@ fn read_short_ends(alloc: Global, begin: usize, buffer: &[u8]) -> Result<Vec<usi
 fn rise(ends: &[usize], most: usize) -> bool
     ensures { result ≡ rises 0 ends.now most }
 {
+    let Some(last) = ends.last() else {
+        return true;
+    };
     let mut falls = false;
-    let mut last = 0;
-    for end in ends {
-        falls = falls | (*end < last);
-        last = *end;
+    for i in 1..ends.len() {
+        falls = falls | (ends[i] < ends[i - 1]);
     }
-    !falls && last <= most
+    !falls && *last <= most
 }
 
 // The bytes between these ends, null where they aren't valid.
@@ -184,6 +186,9 @@ fn nulls_are_empty(ends: &[usize], valid: &Bits) -> bool
     requires { length ends.now ≡ length valid.now }
     ensures { IsTrue result → NullsAreEmpty 0 ends.now valid.now }
 {
+    if valid.is_all() {
+        return true;
+    }
     let mut start = 0;
     for i in 0..ends.len() {
         if !valid.get(i) && ends[i] != start {
@@ -244,14 +249,28 @@ fn are_texts(column: &TextCol) -> bool
     begin_at_characters(column, text)
 }
 
+// Each value begins where a character does, as anywhere in ASCII.
 fn begin_at_characters(column: &TextCol, text: &str) -> bool
     requires { text.now ≡ concat (slots [] column.now) }
     ensures { IsTrue result ↔ BeginAtCharacters column.now }
 {
+    if are_ascii(text.as_bytes()) {
+        return true;
+    }
     for i in 0..column.len() {
         if !text.is_char_boundary(column.offset(i)) {
             return false;
         }
     }
     true
+}
+
+fn are_ascii(bytes: &[u8]) -> bool
+    ensures { result ≡ list_all is_ascii bytes.now }
+{
+    let mut is_high = false;
+    for byte in bytes {
+        is_high = is_high | (*byte >= 128);
+    }
+    !is_high
 }

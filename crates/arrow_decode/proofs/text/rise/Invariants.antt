@@ -1,7 +1,7 @@
-use Rattle.std.proofs.Common.{◌≡◌, ◌&&◌, not, drop}
+use Rattle.std.proofs.Common.{◌≡◌, ◌-◌, ◌&&◌, not, drop, get_or}
 use Rattle.arrow_decode.specs.Offsets.{rises}
 use Rattle.arrow_decode.proofs.text.rise.Given as goal
 
 -- what is left tells whether they rise
-abbrev pub invariant-loop-end : goal.invariant-loop-end
-invariant-loop-end l = rises 0 l.ends l.most ≡ (not l.falls && rises l.last (drop l.end-index l.ends) l.most)
+abbrev pub invariant-loop-i : goal.invariant-loop-i
+invariant-loop-i l = rises 0 l.ends l.most ≡ (not l.falls && rises (get_or l.ends (l.i - 1) 0) (drop l.i l.ends) l.most)
