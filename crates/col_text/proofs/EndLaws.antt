@@ -1,7 +1,7 @@
 -- Where the texts of a part of a column end, and where they end once they are moved.
-use Rattle.std.proofs.Common.{◌≡◌, ◌∙◌, ℕ, ◌+◌, ◌-◌, ◌^◌, ◌%◌, ◌<◌, ◌≤◌, List, [], ◌∷◌, ◌++◌, length, map, take, drop, refl, sym, ap, arith, add-zero, length-append}
+use Rattle.std.proofs.Common.{◌≡◌, ◌∙◌, ℕ, ◌+◌, ◌-◌, ◌^◌, ◌%◌, ◌<◌, ◌≤◌, List, [], ◌∷◌, ◌++◌, length, map, take, drop, get_or, refl, sym, ap, arith, add-zero, length-append}
 use Rattle.std.specs.List.{slice_range, concat}
-use Rattle.std.proofs.lemmas.List.{take-append-drop, length-take}
+use Rattle.std.proofs.lemmas.List.{take-append-drop, length-take, length-drop, take_more, map-append, get_or-drop, append_assoc}
 use Rattle.std.proofs.lemmas.List.Folds.{drop_split}
 use Rattle.sub_types.specs.PartLaws.{length-part}
 use Rattle.col_text.specs.Text.{ends_of, offset_of}
@@ -53,3 +53,27 @@ pub ends_of-moved_all : (texts : List (List ℕ)) (start begin : ℕ) → start 
 ends_of-moved_all texts start begin fits within =
     let shift = (start + (2 ^ 64 - begin)) % 2 ^ 64 in
     ap (λ n. map (λ end. (end + shift) % 2 ^ 64) (ends_of n texts)) (sym (add-zero begin)) ∙ ends_of-moved texts start begin 0 (omega arith) (omega arith) ∙ ap (λ n. ends_of n texts) (add-zero start)
+
+-- a part and the number behind it
+part_more : (xs : List ℕ) (a i : ℕ) → a ≤ i → i < length xs → slice_range xs a (i + 1) ≡ slice_range xs a i ++ get_or xs i 0 ∷ []
+part_more xs a i rising below =
+    let grown : i + 1 - a ≡ i - a + 1 = omega arith in
+    let place : a + (i - a) ≡ i = omega arith in
+    let room : i - a < length (drop a xs) = omega (arith, length-drop a xs) in
+    ap (λ n. take n (drop a xs)) grown
+    ∙ take_more (drop a xs) (i - a) 0 room
+    ∙ ap (λ x. take (i - a) (drop a xs) ++ x ∷ []) (get_or-drop a xs (i - a) 0 ∙ ap (λ n. get_or xs n 0) place)
+
+-- one more of a part is moved and added
+pub one_more_moved : (old now new more : List ℕ) (from i end shift : ℕ) → from ≤ i → i < length more → end ≡ get_or more i 0
+    → now ≡ old ++ map (λ x. (x + shift) % 2 ^ 64) (slice_range more from i) → new ≡ now ++ (end + shift) % 2 ^ 64 ∷ []
+    → new ≡ old ++ map (λ x. (x + shift) % 2 ^ 64) (slice_range more from (i + 1))
+one_more_moved old now new more from i end shift rising below is before grown =
+    let f = λ (x : ℕ). (x + shift) % 2 ^ 64 in
+    let part = slice_range more from i in
+    grown
+    ∙ ap (λ (xs : List ℕ). xs ++ f end ∷ []) before
+    ∙ append_assoc old (map f part) (f end ∷ [])
+    ∙ ap (λ (x : ℕ). old ++ (map f part ++ f x ∷ [])) is
+    ∙ ap (λ (xs : List ℕ). old ++ xs) (sym (map-append f part (get_or more i 0 ∷ [])))
+    ∙ ap (λ (xs : List ℕ). old ++ map f xs) (sym (part_more more from i rising below))

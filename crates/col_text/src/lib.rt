@@ -2,10 +2,14 @@
 //! stands on `sub_types`. Contracts see a column, a view and a builder as its list of optional byte lists.
 #![tactic(auto)]
 
+#[cfg(test)]
+mod border;
 mod builder;
 mod column;
+mod ends;
 mod view;
 
 pub use builder::TextBuilder;
 pub use column::TextCol;
+pub use ends::Ends;
 pub use view::TextView;
