@@ -1,0 +1,5 @@
+mod UntilLaws
+mod NarrowLaws
+mod NodeLaws
+mod TypedLaws
+mod LeafLaws
