@@ -3,3 +3,6 @@ mod NarrowLaws
 mod NodeLaws
 mod TypedLaws
 mod LeafLaws
+mod OpenLaws
+mod EarlyLaws
+mod JoinLaws

@@ -1,2 +1,3 @@
 pub mod Evaluated
 pub mod Narrowed
+pub mod Early

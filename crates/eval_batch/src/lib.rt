@@ -2,7 +2,9 @@
 //! `plan_denote`. It stands on `batch` for columns and on `kernels` for selections and stops.
 #![tactic(auto)]
 
+mod early;
 mod eval;
+mod join;
 mod leaves;
 mod rows;
 
