@@ -1,5 +1,5 @@
 -- Calls that end early are narrowings.
-use Rattle.std.proofs.Common.{inl, inr, ◌+◌, ◌<◌, ◌≤◌, ◌++◌, length, get_or, ◌≡◌, ◌∙◌, ℕ, List, [], ◌∷◌, Bool, true, false, is_some, Option, Some, None, Ok, Err, refl, sym, ap, subst, not, ◌||◌, ◌&&◌, if◌then◌else◌}
+use Rattle.std.proofs.Common.{inl, inr, ◌+◌, ◌<◌, ◌≤◌, ◌++◌, length, get_or, ◌≡◌, ◌∙◌, ℕ, List, [], ◌∷◌, Bool, true, false, is_some, Option, Some, None, Ok, refl, sym, ap, subst, not, ◌||◌, ◌&&◌, if◌then◌else◌}
 use Rattle.std.specs.List.{All}
 use Rattle.std.proofs.lemmas.List.Elements.{All-get_or}
 use Rattle.sub_types.specs.Value.{InKind}
@@ -7,9 +7,9 @@ use Rattle.sub_types.specs.declared.kind.Kind.{Kind}
 use Rattle.sub_types.specs.declared.kind.Kind.TheVariants as kinds
 use Rattle.sub_types.specs.declared.value.Value.{Value}
 use Rattle.sub_types.specs.declared.value.Value.TheVariants as values
-use Rattle.plan_denote.specs.Computed.{Computed, is_null}
+use Rattle.plan_denote.specs.Computed.{Computed}
 use Rattle.plan_denote.specs.Logic.{is_truth, three_valued}
-use Rattle.kernels.specs.Until.{Until, until}
+use Rattle.kernels.specs.Until.{until}
 use Rattle.kernels.specs.declared.selection.Stop.{Stop}
 use Rattle.kernels.proofs.UntilLaws.{until-same}
 use Rattle.eval_batch.specs.declared.early.Early.{Early}
@@ -28,7 +28,7 @@ ends_early-narrowed NotNull arg args = coalesce-narrowed arg args
 pub until-ends_early : (early : Early) (arg : ℕ → Computed) (args : ℕ → List Computed) (rows : List ℕ)
     → until (λ i. ends_early early (arg i ∷ args i)) rows
     ≡ (let first = until arg rows in let others = until (λ i. ends_early early (args i)) (open_rows (settles early) rows first.values) in
-      joined (settles early) (merges early) rows first.values first.stop others.values others.stop)
+    joined (settles early) (merges early) rows first.values first.stop others.values others.stop)
 until-ends_early early arg args rows =
     until-same (λ i. ends_early early (arg i ∷ args i)) (λ i. narrowed (settles early) (merges early) (arg i) (ends_early early (args i))) (λ i. ends_early-narrowed early (arg i) (args i)) rows
     ∙ until-narrowed (settles early) (merges early) arg (λ i. ends_early early (args i)) rows
@@ -93,7 +93,7 @@ module _ (early : Early) (others : List Value) (used : ℕ) where
       → IsJoinSoFar (settles early) (merges early) rows first stop others other_stop (i + 1) next.1 (built ++ next.0 ∷ [])
   IsJoinSoFar-next rows first stop other_stop i value next built so_far row_there there at is = elim is [
     | inl one ↦ subst (λ k. IsJoinSoFar (settles early) (merges early) rows first stop others other_stop (i + 1) k (built ++ next.0 ∷ [])) (sym one.1)
-      (IsJoinSoFar-settled (settles early) (merges early) rows first stop others other_stop i used values.Null value next.0 built so_far row_there there at one.0)
+        (IsJoinSoFar-settled (settles early) (merges early) rows first stop others other_stop i used values.Null value next.0 built so_far row_there there at one.0)
     | inr one ↦ subst (λ k. IsJoinSoFar (settles early) (merges early) rows first stop others other_stop (i + 1) k (built ++ next.0 ∷ [])) (sym one.3)
-      (IsJoinSoFar-open (settles early) (merges early) rows first stop others other_stop i used values.Null value values.Null (get_or others used values.Null) next.0 built so_far row_there there at one.0 one.1 refl one.2)
+        (IsJoinSoFar-open (settles early) (merges early) rows first stop others other_stop i used values.Null value values.Null (get_or others used values.Null) next.0 built so_far row_there there at one.0 one.1 refl one.2)
   ]

@@ -1,5 +1,5 @@
 -- Both operands' values put together, by a loop over the first one's.
-use Rattle.std.proofs.Common.{◌≡◌, ◌∙◌, ℕ, ◌+◌, ◌<◌, ◌≤◌, List, [], ◌∷◌, ◌++◌, Option, Some, None, Result, Ok, Err, length, drop, get_or, refl, sym, ap, ap₂, append_assoc}
+use Rattle.std.proofs.Common.{◌≡◌, ◌∙◌, ℕ, ◌+◌, ◌<◌, ◌≤◌, List, [], ◌∷◌, ◌++◌, Option, Some, None, Result, Ok, length, drop, get_or, refl, sym, ap, ap₂, append_assoc}
 use Rattle.std.proofs.Math.ListN.{drop_of_length-le}
 use Rattle.std.proofs.lemmas.List.{append-nil, drop_more}
 use Rattle.sub_types.specs.declared.fault.FaultKind.{FaultKind}
@@ -41,10 +41,10 @@ module _ {X Y Z : Type 0} (settle : X → Option Y) (merge : X → Z → Result 
       let rest = from (i + 1) (drop (k + 1) others) in
       so_far
       ∙ ap (prefixed built) (
-        next i e x (drop k others) None row_there value_there at is
-        ∙ ap (λ left. put merge (get_or rows i 0) x None left other_stop (from (i + 1))) (drop_more others k f there)
-        ∙ ap (λ one. step (get_or rows i 0) (merge x one) rest) (sym other)
-        ∙ ap (λ r. step (get_or rows i 0) r rest) gives)
+      next i e x (drop k others) None row_there value_there at is
+      ∙ ap (λ left. put merge (get_or rows i 0) x None left other_stop (from (i + 1))) (drop_more others k f there)
+      ∙ ap (λ one. step (get_or rows i 0) (merge x one) rest) (sym other)
+      ∙ ap (λ r. step (get_or rows i 0) r rest) gives)
       ∙ one_more built y rest
 
   pub IsJoinSoFar-stopped : (i k : ℕ) (e x : X) (built : List Y) → IsJoinSoFar i k built → i < length rows → i < length values → x ≡ get_or values i e → settle x ≡ None → length others ≤ k

@@ -1,16 +1,16 @@
 -- Constants and columns at rows of a batch.
-use Rattle.std.proofs.Common.{◌≡◌, ◌∙◌, ℕ, zero, suc, ◌<◌, List, [], ◌∷◌, length, map, replicate, get_or, Option, Some, None, Ok, refl, sym, ap, subst, arith}
+use Rattle.std.proofs.Common.{◌≡◌, ◌∙◌, ℕ, zero, suc, ◌<◌, List, [], ◌∷◌, length, map, replicate, get_or, Some, Ok, sym, ap, subst, arith}
 use Rattle.std.specs.Prelude.{slice_get}
 use Rattle.std.specs.List.{All}
 use Rattle.std.proofs.lemmas.List.{get_or-map}
 use Rattle.std.proofs.lemmas.List.Elements.{All-get_or}
 use Rattle.sub_types.specs.Kind.{IsKind}
 use Rattle.sub_types.specs.Rows.{picked}
-use Rattle.sub_types.specs.Value.{InKind, FitsTy}
+use Rattle.sub_types.specs.Value.{InKind}
 use Rattle.sub_types.specs.declared.kind.Ty.{Ty}
 use Rattle.sub_types.specs.declared.value.Value.{Value}
 use Rattle.sub_types.specs.declared.value.Value.TheVariants.{Null}
-use Rattle.plan_typed.specs.declared.expr.Expr.{Expr, Expr-F, out-Expr, roll-Expr, out-roll-Expr}
+use Rattle.plan_typed.specs.declared.expr.Expr.{Expr, Expr-F, roll-Expr, out-roll-Expr}
 use Rattle.plan_typed.specs.declared.expr.Expr.TheFolds.{every_here-Expr}
 use Rattle.plan_typed.specs.declared.expr.Expr.TheVariants as e
 use Rattle.plan_typed.specs.declared.expr.Expr.TheVariants.{rolls-Const, rolls-Column}
@@ -22,7 +22,6 @@ use Rattle.batch.specs.Column.{column_values, column_type}
 use Rattle.batch.specs.declared.batch.Batch.{Batch}
 use Rattle.batch.specs.declared.column.Column.{Column}
 use Rattle.batch.proofs.RowLaws.{get_or-transpose, get_or-across}
-use Rattle.kernels.specs.Until.{Until, until}
 use Rattle.kernels.specs.declared.selection.Stop.TheVariants.{Never}
 use Rattle.eval_batch.specs.Evaluated.{eval_at, evaluated}
 use Rattle.eval_batch.proofs.UntilLaws.{until-constant, until-values}
@@ -92,9 +91,9 @@ module _ (batch : Batch) (expr : Expr) (index : ℕ) (ty : Ty) (is : expr ≡ e.
           ap (λ one. eval_at one batch i) is
           ∙ eval-Column index ty (get_or (rows_of batch) i [])
           ∙ ap Ok (
-            ap (λ row. get_or row index Null) (get_or-transpose Null batch.rows i (columns_of batch) [] below)
-            ∙ get_or-across Null (columns_of batch) i index
-            ∙ ap (λ values. get_or values i Null) (get_or-map column_values batch.columns.items index column [] there ∙ ap column_values (sym at)))
+          ap (λ row. get_or row index Null) (get_or-transpose Null batch.rows i (columns_of batch) [] below)
+          ∙ get_or-across Null (columns_of batch) i index
+          ∙ ap (λ values. get_or values i Null) (get_or-map column_values batch.columns.items index column [] there ∙ ap column_values (sym at)))
 
   pub column_values_at : (column : Column) (rows : List ℕ) → index < length batch.columns.items → column ≡ get_or batch.columns.items index column → All (λ i. i < batch.rows) rows
       → picked Null rows (column_values column) ≡ (evaluated expr batch rows).values

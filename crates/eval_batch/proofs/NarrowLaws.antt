@@ -1,8 +1,6 @@
 -- The law of narrowing: the second operand is evaluated only on the rows that the first one leaves open.
-use Rattle.std.proofs.Common.{◌≡◌, ◌∙◌, ℕ, List, [], ◌∷◌, Option, Some, None, Result, Ok, Err, refl, ap, take, length}
+use Rattle.std.proofs.Common.{◌≡◌, ℕ, List, [], ◌∷◌, Option, Some, None, Result, Ok, Err, refl, ap, take, length}
 use Rattle.sub_types.specs.declared.fault.FaultKind.{FaultKind}
-use Rattle.kernels.specs.declared.selection.Stop.{Stop}
-use Rattle.kernels.specs.declared.selection.Stop.TheVariants.{Never, At}
 use Rattle.kernels.specs.Until.{Until, step, until}
 use Rattle.eval_batch.specs.Narrowed.{opened, narrowed, left_open, open_rows, put, joined, strict}
 

@@ -1,12 +1,16 @@
 -- Each node of more than one operand is a narrowing.
-use Rattle.std.proofs.Common.{◌≡◌, ◌∙◌, ℕ, List, [], ◌∷◌, Bool, true, false, Option, Some, None, Result, Ok, Err, refl, sym, ap, if◌then◌else◌}
+use Rattle.std.proofs.Common.{◌≡◌, ◌∙◌, ℕ, map, List, ◌∷◌, Bool, true, false, Option, Some, None, Result, Ok, Err, refl, ap, not, ◌&&◌, if◌then◌else◌}
 use Rattle.sub_types.specs.declared.fault.FaultKind.{FaultKind}
 use Rattle.sub_types.specs.declared.value.Value.{Value}
 use Rattle.sub_types.specs.declared.value.Value.TheVariants as values
 use Rattle.plan_denote.specs.Computed.{Computed, ◌>>=◌, collect, truth, is_null, is_true}
-use Rattle.plan_denote.specs.Logic.{is_truth, three_valued, ends_at, coalesce, first_true, first_equal}
+use Rattle.plan_denote.specs.Logic.{is_truth, three_valued, ends_at, coalesce, first_true, first_equal, one_of, compared}
+use Rattle.plan_denote.specs.Order.{is_same}
+use Rattle.std.specs.Ordering.{is_eq}
 use Rattle.kernels.specs.Until.{Until, until}
-use Rattle.eval_batch.specs.Narrowed.{opened, narrowed, strict}
+use Rattle.kernels.proofs.UntilLaws.{until-same}
+use Rattle.eval_batch.specs.Narrowed.{opened, narrowed, strict, open_rows, joined}
+use Rattle.eval_batch.proofs.NarrowLaws.{until-narrowed}
 
 -- ---- a list of strict operands
 
@@ -88,3 +92,35 @@ module _ {X : Type 0} (test : X → Bool) where
       by false here (Ok value) = refl
       by false here (Err kind) = refl
   fork-narrowed (Err kind) here other = refl
+
+  -- both ways put together, where the second is wanted
+  abbrev pub decided : List ℕ → (ℕ → Computed) → Until (Option Value) → Until Value
+  decided rows other so_far = let others = until other (open_rows undecided rows so_far.values) in joined undecided later rows so_far.values so_far.stop others.values others.stop
+
+  -- the test on all rows, one way on those where it holds, the other on those that are left before the stop
+  pub until-fork : (g : ℕ → Result X FaultKind) (here other : ℕ → Computed) (rows : List ℕ)
+      → until (λ i. fork (g i) (here i) (other i)) rows
+      ≡ (let tests = until g rows in let found = until here (open_rows passes rows tests.values) in
+      decided rows other (joined passes taken rows tests.values tests.stop found.values found.stop))
+  until-fork g here other rows =
+      until-same (λ i. fork (g i) (here i) (other i)) (λ i. narrowed undecided later (narrowed passes taken (g i) (here i)) (other i)) (λ i. fork-narrowed (g i) (here i) (other i)) rows
+      ∙ until-narrowed undecided later (λ i. narrowed passes taken (g i) (here i)) other rows
+      ∙ ap (decided rows other) (until-narrowed passes taken g here rows)
+
+-- an arm of a conditional, and one of a choice among literals
+pub first_true-fork : (condition value other : Computed) (arms : List (Computed × Computed)) → first_true ((condition, value) ∷ arms) other ≡ fork is_true condition value (first_true arms other)
+first_true-fork condition value other arms = refl
+
+abbrev pub equals : Value → Value → Bool
+equals literal subject = not (is_null subject) && is_same subject literal
+
+pub first_equal-fork : (subject value other : Computed) (literal : Value) (arms : List (Value × Computed))
+    → (subject >>= (λ one. first_equal one ((literal, value) ∷ arms) other)) ≡ fork (equals literal) subject value (subject >>= (λ one. first_equal one arms other))
+first_equal-fork (Ok subject) value other literal arms = refl
+first_equal-fork (Err kind) value other literal arms = refl
+
+-- an option, against which a value is compared
+pub one_of-narrowed : (value option : Computed) (options : List Computed)
+    → (value >>= (λ one. one_of one (option ∷ options))) ≡ narrowed (ends true) (three true) (value >>= (λ one. option >>= (λ other. compared is_eq one other))) (value >>= (λ one. one_of one options))
+one_of-narrowed (Ok one) option options = ends_at-narrowed true (option >>= (λ other. compared is_eq one other)) (map (λ option. option >>= (λ other. compared is_eq one other)) options)
+one_of-narrowed (Err kind) option options = refl

@@ -1,6 +1,6 @@
 -- A well-typed expression over a batch whose rows fit: its kind is valid, and its values are of it.
-use Rattle.std.proofs.Common.{◌≡◌, ◌∙◌, ℕ, ◌<◌, List, [], ◌∷◌, length, map, get_or, Ok, IfOk, sym, ap, subst, arith}
-use Rattle.std.specs.List.{All, AllByRecursion}
+use Rattle.std.proofs.Common.{◌≡◌, ℕ, ◌<◌, List, [], ◌∷◌, length, map, get_or, Ok, IfOk, sym, subst, arith}
+use Rattle.std.specs.List.{All}
 use Rattle.std.proofs.lemmas.List.Elements.{All-get_or}
 use Rattle.sub_types.specs.Kind.{IsKind}
 use Rattle.sub_types.specs.Value.{InKind, Fits, FitsTy}
@@ -12,7 +12,6 @@ use Rattle.plan_typed.specs.Types.{ty_of}
 use Rattle.well_typed.specs.ExprTyped.{IsTypedOver}
 use Rattle.well_typed.proofs.ValidKinds.{AreKinds, typed_kind}
 use Rattle.plan_denote.specs.Computed.{Computed}
-use Rattle.plan_denote.specs.Eval.{eval}
 use Rattle.eval_typed.proofs.Law.{law_of_types}
 use Rattle.batch.specs.BatchRows.{rows_of, types_of, columns_of}
 use Rattle.batch.specs.Column.{column_type}

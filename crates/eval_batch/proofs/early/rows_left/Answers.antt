@@ -1,5 +1,5 @@
 -- Each row is left open, or its value settles the call.
-use Rattle.std.proofs.Common.{rules, arith, ◌≡◌, ◌<◌, ◌+◌, ◌++◌, ◌∷◌, [], length, is_some, true, false, get_or, sym, subst}
+use Rattle.std.proofs.Common.{rules, ◌≡◌, ◌<◌, ◌+◌, ◌++◌, ◌∷◌, [], length, is_some, true, false, get_or, sym, subst}
 use Rattle.sub_types.specs.declared.value.Value.TheVariants.{Null}
 use Rattle.batch.specs.ColumnValues.{values_of}
 use Rattle.eval_batch.specs.Early.{settles}

@@ -60,9 +60,11 @@ loop-i-preserved c =
     let is : IsNext c.args.early c.in_ok-value.value rest c.loop-i.used (Some (c.in-Some.value, c.in-Some.now_used)) =
     subst (λ (one : Option (Value × ℕ)). IsNext c.args.early c.in_ok-value.value rest c.loop-i.used one) e c.in_ok-value-2.ensures in
     let ty : c.push.new.self.ty ≡ c.args.ty = search rules in
-    let grown : c.push.new.self.values ≡ c.loop-i.built.values ++ c.in-Some.value ∷ [] = search rules in
-    (ty, subst (IsJoinSoFar (settles c.args.early) (merges c.args.early) c.args.rows.now first c.args.first_stop rest c.args.rest_stop (c.loop-i.i + 1) c.in-Some.now_used) (sym grown)
-      (IsJoinSoFar-next c.args.early rest c.loop-i.used c.args.rows.now first c.args.first_stop c.args.rest_stop c.loop-i.i c.in_ok-value.value (c.in-Some.value, c.in-Some.now_used) c.loop-i.built.values c.loop-i.invariant.1 row_there there c.in_ok-value.ensures is))
+    let grown : c.push.new.self.values ≡ c.loop-i.built.values ++ c.in-Some.value ∷ [] = search rules in (
+      ty,
+      subst (IsJoinSoFar (settles c.args.early) (merges c.args.early) c.args.rows.now first c.args.first_stop rest c.args.rest_stop (c.loop-i.i + 1) c.in-Some.now_used) (sym grown)
+          (IsJoinSoFar-next c.args.early rest c.loop-i.used c.args.rows.now first c.args.first_stop c.args.rest_stop c.loop-i.i c.in_ok-value.value (c.in-Some.value, c.in-Some.now_used) c.loop-i.built.values c.loop-i.invariant.1 row_there there c.in_ok-value.ensures is),
+    )
 
 pub returns-clause-values : goal.returns-clause-values
 returns-clause-values c =

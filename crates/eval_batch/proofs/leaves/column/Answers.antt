@@ -1,5 +1,5 @@
 -- The column exists and has a value at each row.
-use Rattle.std.proofs.Common.{◌≡◌, ◌∙◌, ◌<◌, length, sym, ap, arith}
+use Rattle.std.proofs.Common.{◌∙◌, sym, ap, arith}
 use Rattle.sub_types.specs.declared.kind.Ty.{Ty}
 use Rattle.eval_batch.proofs.LeafLaws.{column_exists, column_kind, column_long, column_values_at, column_stop, column_type_of}
 use Rattle.eval_batch.proofs.leaves.column.Goals as goal

@@ -1,5 +1,5 @@
 -- The column's kind is valid, and each value is of it.
-use Rattle.std.proofs.Common.{◌≡◌, sym, subst, rules}
+use Rattle.std.proofs.Common.{sym, subst, rules}
 use Rattle.sub_types.specs.Kind.{IsKind}
 use Rattle.sub_types.specs.declared.kind.Ty.{Ty}
 use Rattle.eval_batch.proofs.TypedLaws.{kind_valid, cell_in_kind}
