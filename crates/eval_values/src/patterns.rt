@@ -35,7 +35,7 @@ pub(crate) fn starts_with(text: &Value, pattern: &Value) -> Result<Value, FaultK
     ensures { result ≡ spec.tested spec.begins text.now pattern.now }
 {
     match both_texts(text, pattern) {
-        Some((text, pattern)) => truth(kernels::starts_with(text.as_bytes(), pattern.as_bytes())),
+        Some((text, pattern)) => truth(text_match::starts_with(text.as_bytes(), pattern.as_bytes())),
         None => Ok(Value::Null),
     }
 }
@@ -44,7 +44,7 @@ pub(crate) fn ends_with(text: &Value, pattern: &Value) -> Result<Value, FaultKin
     ensures { result ≡ spec.tested spec.ends text.now pattern.now }
 {
     match both_texts(text, pattern) {
-        Some((text, pattern)) => truth(kernels::ends_with(text.as_bytes(), pattern.as_bytes())),
+        Some((text, pattern)) => truth(text_match::ends_with(text.as_bytes(), pattern.as_bytes())),
         None => Ok(Value::Null),
     }
 }
@@ -53,7 +53,7 @@ pub(crate) fn contains(text: &Value, pattern: &Value) -> Result<Value, FaultKind
     ensures { result ≡ spec.tested spec.contains text.now pattern.now }
 {
     match both_texts(text, pattern) {
-        Some((text, pattern)) => truth(kernels::contains(text.as_bytes(), pattern.as_bytes())),
+        Some((text, pattern)) => truth(text_match::contains(text.as_bytes(), pattern.as_bytes())),
         None => Ok(Value::Null),
     }
 }
@@ -62,7 +62,7 @@ pub(crate) fn like(text: &Value, pattern: &Value) -> Result<Value, FaultKind>
     ensures { result ≡ spec.tested spec.like text.now pattern.now }
 {
     match both_texts(text, pattern) {
-        Some((text, pattern)) => truth(kernels::like(text.as_bytes(), pattern.as_bytes())),
+        Some((text, pattern)) => truth(text_match::like(text.as_bytes(), pattern.as_bytes())),
         None => Ok(Value::Null),
     }
 }

@@ -1,4 +1,3 @@
-pub mod Segments
 pub mod Rising
 pub mod Truths
 pub mod Numbers

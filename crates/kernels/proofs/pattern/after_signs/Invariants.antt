@@ -1,6 +1,0 @@
-use Rattle.std.proofs.Common.{◌≡◌, drop}
-use Rattle.kernels.specs.Segments as segments
-use Rattle.kernels.proofs.pattern.after_signs.Given as goal
-
-abbrev pub invariant-loop-sign : goal.invariant-loop-sign
-invariant-loop-sign l = segments.after_signs (drop l.sign-index l.signs) l.rest ≡ segments.after_signs l.signs l.text

@@ -1,8 +1,0 @@
-use Rattle.std.proofs.Common.{◌∙◌, ◌==◌, length, ap}
-use Rattle.kernels.specs.Segments.{rest_passes}
-use Rattle.kernels.proofs.StepLaws.{empty-chars}
-use Rattle.kernels.proofs.pattern.is_segment.Goals as goal
-
-pub returns-in-Some : goal.returns-in-Some
-returns-in-Some c =
-    c.is_empty.ensures ∙ empty-chars c.in-Some.rest.now c.in-Some.ensures.utf8 ∙ ap (rest_passes (λ rest. length rest == 0)) c.in-Some.ensures.value

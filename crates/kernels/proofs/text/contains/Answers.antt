@@ -1,6 +1,0 @@
-use Rattle.std.proofs.Common.{◌∙◌}
-use Rattle.kernels.proofs.TextLaws.{contains-find}
-use Rattle.kernels.proofs.text.contains.Goals as goal
-
-pub returns : goal.returns
-returns c = c.is_some.ensures ∙ contains-find c.args.text.now c.args.pattern.now c.find.result c.find.ensures

@@ -1,0 +1,5 @@
+pub mod TextLaws
+pub mod SegmentLaws
+pub mod SignLaws
+pub mod StepLaws
+pub mod EndLaws
