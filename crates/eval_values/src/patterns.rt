@@ -35,7 +35,10 @@ pub(crate) fn starts_with(text: &Value, pattern: &Value) -> Result<Value, FaultK
     ensures { result ≡ spec.tested spec.begins text.now pattern.now }
 {
     match both_texts(text, pattern) {
-        Some((text, pattern)) => truth(text_match::starts_with(text.as_bytes(), pattern.as_bytes())),
+        Some((text, pattern)) => truth(text_match::starts_with(
+            text.as_bytes(),
+            pattern.as_bytes(),
+        )),
         None => Ok(Value::Null),
     }
 }
