@@ -1,0 +1,4 @@
+pub mod RunLaws
+pub mod ProbeLaws
+pub mod PiecesLaws
+pub mod FetchLaws

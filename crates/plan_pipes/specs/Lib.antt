@@ -1,0 +1,5 @@
+pub mod Run
+pub mod RowMeaning
+pub mod TypeMeaning
+pub mod Pieces
+pub mod FetchPieces
