@@ -5,6 +5,8 @@
 #[cfg(test)]
 mod batches;
 #[cfg(test)]
+mod border;
+#[cfg(test)]
 mod numbers;
 #[cfg(test)]
 mod parts;

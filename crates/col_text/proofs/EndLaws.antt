@@ -1,10 +1,10 @@
 -- Where the texts of a part of a column end, and where they end once they are moved.
-use Rattle.std.proofs.Common.{◌≡◌, ◌∙◌, ℕ, ◌+◌, ◌-◌, ◌^◌, ◌%◌, ◌<◌, ◌≤◌, List, [], ◌∷◌, ◌++◌, length, map, take, drop, get_or, refl, sym, ap, arith, add-zero, length-append}
-use Rattle.std.specs.List.{slice_range, concat}
-use Rattle.std.proofs.lemmas.List.{take-append-drop, length-take, length-drop, take_more, map-append, get_or-drop, append_assoc}
+use Rattle.std.proofs.Common.{rules, tests, Bool, true, false, ◌&&◌, ◌≡◌, ◌∙◌, ℕ, ◌+◌, ◌-◌, ◌^◌, ◌%◌, ◌<◌, ◌≤◌, List, [], ◌∷◌, ◌++◌, length, map, take, drop, get_or, refl, sym, ap, arith, add-zero, length-append}
+use Rattle.std.specs.List.{slice_range, concat, list_all}
+use Rattle.std.proofs.lemmas.List.{take-append-drop, take-append-le, drop-append-le, append-nil, length-take, length-drop, take_more, map-append, get_or-drop, append_assoc}
 use Rattle.std.proofs.lemmas.List.Folds.{drop_split}
 use Rattle.sub_types.specs.PartLaws.{length-part}
-use Rattle.col_text.specs.Text.{ends_of, offset_of}
+use Rattle.col_text.specs.Text.{ends_of, offset_of, moves_below}
 use Rattle.col_text.proofs.TextLaws.{length-ends_of, ends_of-append, slice-middle}
 
 -- the ends of a part
@@ -77,3 +77,46 @@ one_more_moved old now new more from i end shift rising below is before grown =
     ∙ ap (λ (x : ℕ). old ++ (map f part ++ f x ∷ [])) is
     ∙ ap (λ (xs : List ℕ). old ++ xs) (sym (map-append f part (get_or more i 0 ∷ [])))
     ∙ ap (λ (xs : List ℕ). old ++ map f xs) (sym (part_more more from i rising below))
+
+-- both tests
+both_left : (a b : Bool) → (a && b) ≡ true → a ≡ true
+both_left true b h = refl
+both_left false b h = h
+
+both_right : (a b : Bool) → (a && b) ≡ true → b ≡ true
+both_right true b h = h
+both_right false b h = absurd (cc)
+
+-- a number that stays below 2^32 is moved by what is left of the shift
+moved_short : (shift x : ℕ) → moves_below shift x ≡ true → (x + shift % 2 ^ 32) % 2 ^ 32 ≡ (x + shift) % 2 ^ 64
+moved_short shift x below =
+    let low : (x + shift) % 2 ^ 64 < 2 ^ 32 = search (rules, tests) in
+    omega (arith, low)
+
+all_moved_short : (shift : ℕ) (xs : List ℕ) → list_all (moves_below shift) xs ≡ true → map (λ x. (x + shift % 2 ^ 32) % 2 ^ 32) xs ≡ map (λ x. (x + shift) % 2 ^ 64) xs
+all_moved_short shift [] below = refl
+all_moved_short shift (x ∷ xs) below =
+    ap (λ n. n ∷ map (λ k. (k + shift % 2 ^ 32) % 2 ^ 32) xs) (moved_short shift x (both_left (moves_below shift x) (list_all (moves_below shift) xs) below))
+    ∙ ap (λ rest. ((x + shift) % 2 ^ 64) ∷ rest) (all_moved_short shift xs (both_right (moves_below shift x) (list_all (moves_below shift) xs) below))
+
+-- a part of the front
+part_of_front : (front back : List ℕ) (a b : ℕ) → a ≤ b → b ≤ length front → slice_range (front ++ back) a b ≡ slice_range front a b
+part_of_front front back a b rising within =
+    let room : b - a ≤ length (drop a front) = omega (arith, length-drop a front) in
+    ap (take (b - a)) (drop-append-le a front back (omega arith)) ∙ take-append-le (b - a) (drop a front) back room
+
+-- a list without items
+pub no_items : (xs : List ℕ) → length xs ≡ 0 → xs ≡ []
+no_items [] none = refl
+no_items (x ∷ xs) none = absurd (omega arith)
+
+-- a part of the narrow ends behind narrow ends
+pub narrow_moved : (narrow wide more_narrow more_wide part : List ℕ) (from to shift : ℕ) → wide ≡ [] → from ≤ to → to ≤ length more_narrow → part ≡ slice_range more_narrow from to → list_all (moves_below shift) part ≡ true
+    → (narrow ++ map (λ x. (x + shift % 2 ^ 32) % 2 ^ 32) part) ++ wide ≡ (narrow ++ wide) ++ map (λ x. (x + shift) % 2 ^ 64) (slice_range (more_narrow ++ more_wide) from to)
+narrow_moved narrow wide more_narrow more_wide part from to shift none rising within is below =
+    let grown = narrow ++ map (λ x. (x + shift % 2 ^ 32) % 2 ^ 32) part in
+    let here : narrow ≡ narrow ++ wide = sym (append-nil narrow) ∙ ap (λ (xs : List ℕ). narrow ++ xs) (sym none) in
+    ap (λ (xs : List ℕ). grown ++ xs) none ∙ append-nil grown
+    ∙ ap (λ (xs : List ℕ). narrow ++ xs) (all_moved_short shift part below)
+    ∙ ap (λ (xs : List ℕ). narrow ++ map (λ x. (x + shift) % 2 ^ 64) xs) (is ∙ sym (part_of_front more_narrow more_wide from to rising within))
+    ∙ ap (λ (xs : List ℕ). xs ++ map (λ x. (x + shift) % 2 ^ 64) (slice_range (more_narrow ++ more_wide) from to)) here

@@ -1,5 +1,5 @@
 -- The buffers of a column of texts (Arrow columnar format, variable-size binary layout), but for the first offset, 0.
-use Rattle.std.specs.Prelude.{◌≡◌, ℕ, ◌+◌, ◌≤◌, List, [], ◌∷◌, Bool, true, false, Option, None, length, take, map, is_some, slice_index_or}
+use Rattle.std.specs.Prelude.{◌≡◌, ℕ, ◌+◌, ◌%◌, ◌^◌, ◌≤◌, nat_lt, List, [], ◌∷◌, Bool, true, false, Option, None, length, take, map, is_some, slice_index_or}
 use Rattle.std.specs.List.{slice_range, concat}
 use Rattle.sub_types.specs.Slots.{slots}
 
@@ -46,3 +46,7 @@ values_at column at = map (λ i. slice_index_or column i None) at
 
 abbrev pub texts_at : List (Option (List ℕ)) → List ℕ → List (List ℕ)
 texts_at column at = map (λ i. slice_index_or (slots [] column) i []) at
+
+-- whether an end is below 2^32 once it is moved by a number that wraps round
+abbrev pub moves_below : ℕ → ℕ → Bool
+moves_below shift end = nat_lt ((end + shift) % 2 ^ 64) (2 ^ 32)

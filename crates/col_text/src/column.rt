@@ -5,7 +5,7 @@ ghost use Rattle.sub_types.specs.Slots.{slots};
 ghost use Rattle.sub_types.specs.Optional.{optional};
 ghost use Rattle.col_text.specs.Text.{ends_of, offset_of, pieces, AreParts};
 
-use crate::TextView;
+use crate::{Ends, TextView};
 use std::alloc::Global;
 use std::marker::Model;
 use sub_types::{Bits, NoMemory};
@@ -13,7 +13,7 @@ use sub_types::{Bits, NoMemory};
 /// A column of texts or binaries. Contracts see its list of optional byte lists.
 #[derive(Debug, Drop)]
 pub struct TextCol {
-    ends: Vec<usize>,
+    ends: Ends,
     bytes: Vec<u8>,
     valid: Bits,
 }
@@ -25,9 +25,9 @@ impl Model for TextCol {
 
     ghost Value = { List (Option (List ℕ)) };
 
-    ghost view = { λ column. optional (pieces 0 column.ends.items column.bytes.items) column.valid };
+    ghost view = { λ column. optional (pieces 0 column.ends column.bytes.items) column.valid };
 
-    ghost invariant = { λ column. HoldsTexts (optional (pieces 0 column.ends.items column.bytes.items) column.valid) column.ends.items column.bytes.items column.valid };
+    ghost invariant = { λ column. HoldsTexts (optional (pieces 0 column.ends column.bytes.items) column.valid) column.ends column.bytes.items column.valid };
 }
 
 impl TextCol {
@@ -36,7 +36,7 @@ impl TextCol {
         ensures { result ≡ [] }
     {
         TextCol {
-            ends: Vec::new(alloc),
+            ends: Ends::new(alloc),
             bytes: Vec::new(alloc),
             valid: Bits::new(alloc),
         }
@@ -50,7 +50,7 @@ impl TextCol {
     ) -> Result<TextCol, NoMemory>
         ensures { IfOk result (λ column. column ≡ []) }
     {
-        let ends = Vec::with_capacity(alloc, values)?;
+        let ends = Ends::with_capacity(alloc, values)?;
         let bytes = Vec::with_capacity(alloc, bytes)?;
         let mut valid = Bits::new(alloc);
         valid.reserve(values)?;
@@ -67,10 +67,18 @@ impl TextCol {
     }
 
     /// The column of these texts: where each ends, their bytes one behind the other, and which are there. It takes
-    /// no memory.
+    /// no memory, so each end keeps its eight bytes.
     pub fn from_parts(ends: Vec<usize>, bytes: Vec<u8>, valid: Bits) -> TextCol
         requires { AreParts ends.items bytes.items valid }
         ensures { result ≡ optional (pieces 0 ends.items bytes.items) valid }
+    {
+        TextCol::from_ends(Ends::from_wide(ends), bytes, valid)
+    }
+
+    /// The same of ends that take four bytes each where they can. It takes no memory.
+    pub fn from_ends(ends: Ends, bytes: Vec<u8>, valid: Bits) -> TextCol
+        requires { AreParts ends bytes.items valid }
+        ensures { result ≡ optional (pieces 0 ends bytes.items) valid }
     {
         TextCol { ends, bytes, valid }
     }
@@ -98,6 +106,7 @@ impl TextCol {
         requires { i < length self.now }
         ensures { option_copied result ≡ slice_index_or self.now i None }
     {
+        let _count = self.len();
         if self.valid.get(i) {
             return Some(self.bytes_between(i, i + 1));
         }
@@ -112,7 +121,7 @@ impl TextCol {
         if i == 0 {
             return 0;
         }
-        self.ends[i - 1]
+        self.ends.get(i - 1)
     }
 
     /// Where the bytes of the values from `from` to before `to` begin and end.
@@ -127,13 +136,11 @@ impl TextCol {
         (self.offset(from), self.offset(to))
     }
 
-    /// Where the values from `from` to before `to` end.
-    pub(crate) fn ends_between(&self, from: usize, to: usize) -> &[usize]
-        requires rising { from ≤ to }
-        requires within { to ≤ length self.now }
-        ensures { result.now ≡ ends_of (offset_of (slots [] self.now) from) (slice_range (slots [] self.now) from to) }
+    /// Where the values end, if the first of them begins at 0.
+    pub fn ends(&self) -> &Ends
+        ensures { result.now ≡ ends_of 0 (slots [] self.now) }
     {
-        &self.ends[from..to]
+        &self.ends
     }
 
     /// The bytes of the values from `from` to before `to`, one behind the other. A null has none.
@@ -184,7 +191,7 @@ impl TextCol {
         let before = self.bytes.len();
         let count = self.ends.len();
         self.bytes.extend_from_slice(more.bytes())?;
-        if let Err(NoMemory) = append_ends(&mut self.ends, more, before) {
+        if let Err(NoMemory) = more.add_ends(&mut self.ends, before) {
             self.bytes.truncate(before);
             return Err(NoMemory);
         }
@@ -199,45 +206,15 @@ impl TextCol {
 }
 
 // Adds where one more value ends, and whether it is there.
-fn push_end(
-    ends: &mut Vec<usize>,
-    valid: &mut Bits,
-    end: usize,
-    is_valid: bool,
-) -> Result<(), NoMemory>
-    ensures ok_end { OnOk result (ends.new.items ≡ ends.old.items ++ end ∷ []) }
+fn push_end(ends: &mut Ends, valid: &mut Bits, end: usize, is_valid: bool) -> Result<(), NoMemory>
+    ensures ok_end { OnOk result (ends.new ≡ ends.old ++ end ∷ []) }
     ensures ok_valid { OnOk result (valid.new ≡ valid.old ++ is_valid ∷ []) }
-    ensures err_end { OnErr result (ends.new.items ≡ ends.old.items) }
+    ensures err_end { OnErr result (ends.new ≡ ends.old) }
     ensures err_valid { OnErr result (valid.new ≡ valid.old) }
 {
+    let count = ends.len();
     ends.push(end)?;
     if let Err(NoMemory) = valid.push(is_valid) {
-        let _ = ends.pop();
-        return Err(NoMemory);
-    }
-    Ok(())
-}
-
-// Adds where the values end, if the first of them begins at `start`.
-fn append_ends(ends: &mut Vec<usize>, more: &TextView<'_>, start: usize) -> Result<(), NoMemory>
-    requires { start + length (concat (slots [] more.now)) < 2 ^ 64 }
-    ensures ok { OnOk result (ends.new.items ≡ ends.old.items ++ ends_of start (slots [] more.now)) }
-    ensures err { OnErr result (ends.new.items ≡ ends.old.items) }
-{
-    let (begin, more) = more.ends();
-    extend_moved(ends, more, start.wrapping_sub(begin))
-}
-
-// Adds these numbers, each moved by a number that wraps round.
-fn extend_moved(ends: &mut Vec<usize>, more: &[usize], shift: usize) -> Result<(), NoMemory>
-    ensures ok { OnOk result (ends.new.items ≡ ends.old.items ++ map (λ end. (end + shift) % 2 ^ 64) more.now) }
-    ensures err { OnErr result (ends.new.items ≡ ends.old.items) }
-{
-    let count = ends.len();
-    if ends
-        .extend(more.iter().map(|end| end.wrapping_add(shift)))
-        .is_err()
-    {
         ends.truncate(count);
         return Err(NoMemory);
     }

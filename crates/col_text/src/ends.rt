@@ -1,6 +1,7 @@
 // Where the texts of a column end, four bytes each as long as they fit.
-ghost use Rattle.std.specs.Prelude.{◌≡◌, ◌↔◌, ◌+◌, ◌-◌, ◌%◌, ◌<◌, ◌≤◌, ◌^◌, ◌∷◌, ◌++◌, [], length, map, take, slice_index, OnOk, OnErr, IfOk, IsTrue};
-ghost use Rattle.std.specs.List.{slice_range};
+ghost use Rattle.std.specs.Prelude.{◌≡◌, ◌↔◌, ◌+◌, ◌-◌, ◌%◌, ◌<◌, ◌≤◌, ◌^◌, ◌∷◌, ◌++◌, [], length, map, take, slice_index, OnOk, OnErr, IfOk, IfSome, IsTrue};
+ghost use Rattle.std.specs.List.{slice_range, list_all};
+ghost use Rattle.col_text.specs.Text.{moves_below};
 
 use std::alloc::Global;
 use std::marker::Model;
@@ -54,6 +55,17 @@ impl Ends {
         }
     }
 
+    /// These ends, of eight bytes each. It takes no memory.
+    pub(crate) fn from_wide(ends: Vec<usize>) -> Ends
+        ensures { result ≡ ends.items }
+    {
+        let alloc = *ends.allocator();
+        Ends {
+            narrow: Vec::new(alloc),
+            wide: ends,
+        }
+    }
+
     pub fn len(&self) -> usize
         ensures { result ≡ length self.now }
     {
@@ -75,6 +87,16 @@ impl Ends {
             return self.narrow[i] as usize;
         }
         self.wide[i - narrow]
+    }
+
+    /// The ends, if each takes four bytes.
+    pub fn narrow(&self) -> Option<&[u32]>
+        ensures { IfSome result (λ ends. ends.now ≡ self.now) }
+    {
+        if !self.wide.is_empty() {
+            return None;
+        }
+        Some(&self.narrow)
     }
 
     /// The last, or 0 where there is none.
@@ -115,6 +137,28 @@ impl Ends {
         ensures ok { OnOk result (self.new ≡ self.old ++ map (λ end. (end + shift) % 2 ^ 64) (slice_range more.now from to)) }
         ensures err { OnErr result (self.new ≡ self.old) }
     {
+        if self.wide.is_empty() && to <= more.narrow.len() {
+            let part = &more.narrow[from..to];
+            if stay_narrow(part, shift) {
+                return extend_narrow(&mut self.narrow, part, (shift % (1 << 32)) as u32);
+            }
+        }
+        self.extend_each(more, from, to, shift)
+    }
+
+    // The same, one by one.
+    fn extend_each(
+        &mut self,
+        more: &Ends,
+        from: usize,
+        to: usize,
+        shift: usize,
+    ) -> Result<(), NoMemory>
+        requires rising { from ≤ to }
+        requires within { to ≤ length more.now }
+        ensures ok { OnOk result (self.new ≡ self.old ++ map (λ end. (end + shift) % 2 ^ 64) (slice_range more.now from to)) }
+        ensures err { OnErr result (self.new ≡ self.old) }
+    {
         let count = self.len();
         for i in from..to {
             if let Err(NoMemory) = self.push(more.get(i).wrapping_add(shift)) {
@@ -137,4 +181,31 @@ impl Ends {
         }
         self.wide.truncate(n - narrow);
     }
+}
+
+// Whether each is below 2^32 once it is moved by a number that wraps round.
+fn stay_narrow(ends: &[u32], shift: usize) -> bool
+    ensures { result ≡ list_all (moves_below shift) ends.now }
+{
+    let mut is_wide = false;
+    for end in ends {
+        is_wide = is_wide | ((*end as usize).wrapping_add(shift) >= 1 << 32);
+    }
+    !is_wide
+}
+
+// Adds these numbers, each moved by a number that wraps round.
+fn extend_narrow(ends: &mut Vec<u32>, more: &[u32], shift: u32) -> Result<(), NoMemory>
+    ensures ok { OnOk result (ends.new.items ≡ ends.old.items ++ map (λ end. (end + shift) % 2 ^ 32) more.now) }
+    ensures err { OnErr result (ends.new.items ≡ ends.old.items) }
+{
+    let count = ends.len();
+    if ends
+        .extend(more.iter().map(|end| end.wrapping_add(shift)))
+        .is_err()
+    {
+        ends.truncate(count);
+        return Err(NoMemory);
+    }
+    Ok(())
 }

@@ -2,8 +2,6 @@
 //! stands on `sub_types`. Contracts see a column, a view and a builder as its list of optional byte lists.
 #![tactic(auto)]
 
-#[cfg(test)]
-mod border;
 mod builder;
 mod column;
 mod ends;

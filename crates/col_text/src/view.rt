@@ -1,10 +1,10 @@
 // A column of texts or binaries, or a part of one, lent without a copy.
-ghost use Rattle.std.specs.Prelude.{◌≡◌, ◌↔◌, ◌+◌, ◌^◌, ◌<◌, ◌≤◌, [], None, length, map, is_some, slice_index_or, option_copied, All, IfOk, IsTrue};
+ghost use Rattle.std.specs.Prelude.{◌≡◌, ◌↔◌, ◌+◌, ◌^◌, ◌<◌, ◌≤◌, ◌++◌, [], None, length, map, is_some, slice_index_or, option_copied, All, OnOk, OnErr, IfOk, IsTrue};
 ghost use Rattle.std.specs.List.{slice_range, concat};
 ghost use Rattle.sub_types.specs.Slots.{slots};
 ghost use Rattle.col_text.specs.Text.{ends_of, offset_of, values_at, texts_at};
 
-use crate::TextCol;
+use crate::{Ends, TextCol};
 use std::alloc::Global;
 use std::marker::Model;
 use sub_types::{Bits, NoMemory};
@@ -98,14 +98,16 @@ impl<'a> TextView<'a> {
         (self.column.validity(), self.from, self.from + self.len)
     }
 
-    /// Where the bytes of these values begin in the column's, and where each value ends there.
-    pub(crate) fn ends(&self) -> (usize, &'a [usize])
-        ensures ends { result.1.now ≡ ends_of result.0 (slots [] self.now) }
-        ensures within { result.0 + length (concat (slots [] self.now)) < 2 ^ 64 }
+    /// Adds where these values end to other ends, if the first of them begins at `start`.
+    pub(crate) fn add_ends(&self, ends: &mut Ends, start: usize) -> Result<(), NoMemory>
+        requires { start + length (concat (slots [] self.now)) < 2 ^ 64 }
+        ensures ok { OnOk result (ends.new ≡ ends.old ++ ends_of start (slots [] self.now)) }
+        ensures err { OnErr result (ends.new ≡ ends.old) }
     {
         let end = self.from + self.len;
         let (begin, _) = self.column.extent(self.from, end);
-        (begin, self.column.ends_between(self.from, end))
+        let shift = start.wrapping_sub(begin);
+        ends.extend_moved(self.column.ends(), self.from, end, shift)
     }
 
     /// The values at these places, in this order.
@@ -136,8 +138,8 @@ impl<'a> TextView<'a> {
         ensures { IfOk result (λ column. column ≡ map (λ i. slice_index_or self.now i None) at.now) }
     {
         let ends = self.gather_ends(alloc, at)?;
-        let bytes = self.gather_bytes(alloc, at, ends.last().copied().unwrap_or(0))?;
-        Ok(TextCol::from_parts(ends, bytes, valid))
+        let bytes = self.gather_bytes(alloc, at, ends.last())?;
+        Ok(TextCol::from_ends(ends, bytes, valid))
     }
 
     // The bytes of one value. A null has none, and neither has a place where there is no value.
@@ -152,10 +154,10 @@ impl<'a> TextView<'a> {
     }
 
     // Where the values at these places end, one behind the other.
-    fn gather_ends(&self, alloc: Global, at: &[u64]) -> Result<Vec<usize>, NoMemory>
-        ensures { IfOk result (λ ends. ends.items ≡ ends_of 0 (texts_at self.now at.now)) }
+    fn gather_ends(&self, alloc: Global, at: &[u64]) -> Result<Ends, NoMemory>
+        ensures { IfOk result (λ ends. ends ≡ ends_of 0 (texts_at self.now at.now)) }
     {
-        let mut ends = Vec::with_capacity(alloc, at.len())?;
+        let mut ends = Ends::with_capacity(alloc, at.len())?;
         let mut end: usize = 0;
         for i in at {
             // No memory holds more bytes.

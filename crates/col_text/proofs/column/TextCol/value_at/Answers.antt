@@ -1,20 +1,13 @@
 use Rattle.std.proofs.Common.{◌∙◌, [], false, sym, ap, get_or, Some, arith}
 use Rattle.sub_types.specs.Slots.{slots, length-slots}
-use Rattle.col_text.proofs.TextLaws.{HoldsTexts-seen, HoldsTexts-length, concat-one, get_or-valid}
+use Rattle.col_text.proofs.TextLaws.{HoldsTexts-seen, concat-one, get_or-valid}
 use Rattle.col_text.proofs.column.TextCol.value_at.Goals as goal
-
-pub overflow_add-i : goal.overflow_add-i
-overflow_add-i c =
-    let own = c.self.inside in
-    let holds = HoldsTexts-seen c.args.self.now own.ends.items own.bytes.items own.valid c.self.view_is c.self.invariant in
-    let ends = own.ends in
-    omega (arith, HoldsTexts-length c.args.self.now own.ends.items own.bytes.items own.valid holds, ends.ok, ends.small)
 
 pub returns-then-get : goal.returns-then-get
 returns-then-get c =
     let own = c.self.inside in
     let column = c.args.self.now in
-    let holds = HoldsTexts-seen column own.ends.items own.bytes.items own.valid c.self.view_is c.self.invariant in
+    let holds = HoldsTexts-seen column own.ends own.bytes.items own.valid c.self.view_is c.self.invariant in
     let text = concat-one (slots [] column) c.args.i (omega (arith, length-slots [] column)) in
     let is_valid = sym (ap (λ bits. get_or bits c.args.i false) holds.valid_are) ∙ sym c.get.ensures ∙ c.if-get.true in
     ap Some (c.bytes_between.ensures ∙ text) ∙ sym (get_or-valid column c.args.i is_valid)

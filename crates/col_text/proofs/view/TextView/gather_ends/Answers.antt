@@ -15,7 +15,7 @@ loop-i-preserved c =
     let more = texts_at-more column at k (let below : k < length at = omega arith in below) in
     let next : c.in-Some.next ≡ c.loop-i.end + length text = omega (arith, c.in-Some.ensures, ap length c.text_at.ensures) in
     record {
-      ends = c.in_ok-push.ensures.items ∙ ap (λ (ends : List ℕ). ends ++ c.in-Some.next ∷ []) c.loop-i.invariant.ends ∙ ap (λ n. ends_of 0 texts ++ n ∷ []) next
+      ends = c.in_ok-push.ensures.ok ∙ ap (λ (ends : List ℕ). ends ++ c.in-Some.next ∷ []) c.loop-i.invariant.ends ∙ ap (λ n. ends_of 0 texts ++ n ∷ []) next
           ∙ sym (ap (ends_of 0) more ∙ ends_of-push texts text c.loop-i.end c.loop-i.invariant.end);
       end = omega (arith, next, c.loop-i.invariant.end, ap (λ (all : List (List ℕ)). length (concat all)) more, ap length (concat-push texts text), length-append (concat texts) text);
     }

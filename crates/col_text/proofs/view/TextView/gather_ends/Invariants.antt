@@ -5,6 +5,6 @@ use Rattle.col_text.proofs.view.TextView.gather_ends.Given as goal
 
 abbrev pub invariant-loop-i : goal.invariant-loop-i
 invariant-loop-i l = record {
-  ends : l.ends.items ≡ ends_of 0 (texts_at l.self (take l.i-index l.at));
+  ends : l.ends ≡ ends_of 0 (texts_at l.self (take l.i-index l.at));
   end : l.end ≡ length (concat (texts_at l.self (take l.i-index l.at)));
 }

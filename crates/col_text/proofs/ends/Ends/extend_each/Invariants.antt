@@ -1,6 +1,6 @@
 use Rattle.std.proofs.Common.{◌≡◌, ◌+◌, ◌%◌, ◌^◌, ◌++◌, map, length}
 use Rattle.std.specs.List.{slice_range}
-use Rattle.col_text.proofs.ends.Ends.extend_moved.Given as goal
+use Rattle.col_text.proofs.ends.Ends.extend_each.Given as goal
 
 -- those so far are added
 abbrev pub invariant-loop-i : goal.invariant-loop-i
