@@ -8,3 +8,4 @@ pub mod LengthLaws
 pub mod ChunkLaws
 pub mod CharacterLaws
 pub mod NullLaws
+mod ShortLaws

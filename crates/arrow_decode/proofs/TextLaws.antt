@@ -14,13 +14,13 @@ use Rattle.col_text.specs.Text.{pieces, Rise}
 use Rattle.arrow_meta.specs.Natural.{natural}
 use Rattle.sub_types.specs.OptionSteps.{◌>>=◌, when, all_of}
 use Rattle.arrow_meta.specs.Values.{offsets_in, are_offsets, pieces_of, pieces_in, binaries_in}
-use Rattle.arrow_decode.specs.Offsets.{offsets_of, offset_width, greatest_offset, front_offset, raw_offsets, behind, rises}
+use Rattle.arrow_decode.specs.Offsets.{offsets_of, offset_width, greatest_offset, front_offset, raw_offsets, behind, rises, risen}
 use Rattle.arrow_decode.proofs.InKindLaws.{AreBytes}
 use Rattle.arrow_decode.proofs.ListLaws.{and_left, and_right}
 use Rattle.arrow_decode.proofs.NumberLaws.{map-map, signed_in-short, signed_in-long}
 
 -- a number is below another or not
-either : (a b : ℕ) → (a < b) ⊎ (b ≤ a)
+pub either : (a b : ℕ) → (a < b) ⊎ (b ≤ a)
 either a b = grind arith
 
 -- ---- numbers that rise
@@ -39,7 +39,7 @@ rises-le start ends most rising =
     elim (either most start) as (λ _. start ≤ most) [ inl below ↦ absurd (let no = rises-above start ends most below in cc) | inr within ↦ within ]
 
 -- both sides of a test of two parts
-and_false : (b : Bool) → (b && false) ≡ false
+pub and_false : (b : Bool) → (b && false) ≡ false
 and_false true = refl
 and_false false = refl
 
@@ -335,7 +335,7 @@ binaries_in-rises wide count valid offsets bytes some long are =
     ∙ binaries_in-raw wide count begin valid bytes rest (length-map-range_with_len (λ k. front_offset wide (drop (offset_width wide * k) offsets)) 1 count) fits
 
 -- as many ends as values
-pub length-ends : (wide : Bool) (buffer : List ℕ) (count begin : ℕ) → length (behind begin (raw_offsets wide buffer 1 count)) ≡ count
+length-ends : (wide : Bool) (buffer : List ℕ) (count begin : ℕ) → length (behind begin (raw_offsets wide buffer 1 count)) ≡ count
 length-ends wide buffer count begin =
     length-map (raw_offsets wide buffer 1 count) (λ place. (place + (2 ^ 64 - begin)) % 2 ^ 64)
     ∙ length-map-range_with_len (λ k. front_offset wide (drop (offset_width wide * k) buffer)) 1 count
@@ -374,14 +374,14 @@ same_rises wide count begin most offsets bytes is within =
     ap (λ n. rises n rest most) (sym (add-zero begin)) ∙ rises-behind rest begin 0 most within (most-fits wide count begin most offsets bytes is).0 (rest-fits wide count offsets is.are)
 
 -- an offset is below the one before it, or behind the last place
-pub binaries_in-falls : (wide : Bool) (count begin most : ℕ) (valid : List Bool) (offsets bytes : List ℕ) → IsReadAs wide count begin most offsets bytes → begin ≤ most
+binaries_in-falls : (wide : Bool) (count begin most : ℕ) (valid : List Bool) (offsets bytes : List ℕ) → IsReadAs wide count begin most offsets bytes → begin ≤ most
     → (ends : List ℕ) → ends ≡ behind begin (raw_offsets wide offsets 1 count) → rises 0 ends (most - begin) ≡ false → binaries_in wide count valid offsets bytes ≡ None
 binaries_in-falls wide count begin most valid offsets bytes is within ends are falls =
     read_as wide count begin most valid offsets bytes is
     ∙ rw (same_rises wide count begin most offsets bytes is within ∙ ap (λ es. rises 0 es (most - begin)) (sym are) ∙ falls) refl
 
 -- what ends that rise are
-pub ends_within : (wide : Bool) (count begin most last : ℕ) (offsets bytes : List ℕ) → IsReadAs wide count begin most offsets bytes → begin ≤ most
+ends_within : (wide : Bool) (count begin most last : ℕ) (offsets bytes : List ℕ) → IsReadAs wide count begin most offsets bytes → begin ≤ most
     → (ends : List ℕ) → ends ≡ behind begin (raw_offsets wide offsets 1 count) → rises 0 ends (most - begin) ≡ true → last ≡ get_or ends (count - 1) last
     → (begin + last ≤ most) × Rise 0 ends last
 ends_within wide count begin most last offsets bytes is within ends are rising last_is =
@@ -394,7 +394,7 @@ ends_within wide count begin most last offsets bytes is within ends are rising l
     (omega (arith, low, found), subst P found (Rise-rises ends 0 (most - begin) last some rising))
 
 -- the texts between ends that rise
-pub binaries_in-good : (wide : Bool) (count begin most last : ℕ) (valid : List Bool) (offsets bytes : List ℕ) → IsReadAs wide count begin most offsets bytes → begin ≤ most
+binaries_in-good : (wide : Bool) (count begin most last : ℕ) (valid : List Bool) (offsets bytes : List ℕ) → IsReadAs wide count begin most offsets bytes → begin ≤ most
     → (ends : List ℕ) → ends ≡ behind begin (raw_offsets wide offsets 1 count) → rises 0 ends (most - begin) ≡ true → last ≡ get_or ends (count - 1) last
     → Some (optional (pieces 0 ends (slice_range bytes begin (begin + last))) valid) ≡ binaries_in wide count valid offsets bytes
 binaries_in-good wide count begin most last valid offsets bytes is within ends are rising last_is =
@@ -427,3 +427,62 @@ pub is_read_as : (wide : Bool) (count size begin most : ℕ) (offsets bytes : Li
 is_read_as wide count size begin most offsets bytes some sized room are begin_is most_is =
     let whole = ap (λ (n : ℕ). n * (count + 1)) sized in
     record { some = some; long = omega (arith, whole, room); are = are; begin_is = begin_is; most_is = most_is }
+
+some_is : (xs ys : List ℕ) → Some xs ≡ Some ys → xs ≡ ys
+some_is xs ys is = cc
+
+-- which ends were found
+found_risen : (found : Option (List ℕ)) (ends behind_all : List ℕ) (most : ℕ) → found ≡ Some ends → found ≡ risen most behind_all → (ends ≡ behind_all) × (rises 0 ends most ≡ true)
+found_risen found ends behind_all most some is =
+    by (rises 0 behind_all most) refl
+  where
+    by : (b : Bool) → rises 0 behind_all most ≡ b → (ends ≡ behind_all) × (rises 0 ends most ≡ true)
+    by true rising =
+        let open_ : risen most behind_all ≡ Some behind_all = ap (λ b. when b (Some behind_all)) rising in
+        let same : ends ≡ behind_all = some_is ends behind_all (sym some ∙ is ∙ open_) in
+        (same, ap (λ es. rises 0 es most) same ∙ rising)
+    by false falls = absurd (let none : risen most behind_all ≡ None = ap (λ b. when b (Some behind_all)) falls in let no : Some ends ≡ None = sym some ∙ is ∙ none in cc)
+
+none_risen : (found : Option (List ℕ)) (behind_all : List ℕ) (most : ℕ) → found ≡ None → found ≡ risen most behind_all → rises 0 behind_all most ≡ false
+none_risen found behind_all most none is =
+    by (rises 0 behind_all most) refl
+  where
+    by : (b : Bool) → rises 0 behind_all most ≡ b → rises 0 behind_all most ≡ false
+    by false falls = falls
+    by true rising = absurd (let open_ : risen most behind_all ≡ Some behind_all = ap (λ b. when b (Some behind_all)) rising in let no : None ≡ Some behind_all = sym none ∙ is ∙ open_ in cc)
+
+-- the same number, whatever stands where there is none
+same_default : (xs : List ℕ) (i d e : ℕ) → i < length xs → get_or xs i d ≡ get_or xs i e
+same_default [] i d e below = absurd (omega arith)
+same_default (x ∷ xs) zero d e below = refl
+same_default (x ∷ xs) (suc i) d e below = same_default xs i d e (omega arith)
+
+-- what the ends that were found are
+pub record AreEnds (wide : Bool) (count begin most last : ℕ) (valid : List Bool) (offsets bytes ends : List ℕ) : Type 0 where
+  pub within : begin + last ≤ most
+  pub rising : Rise 0 ends last
+  pub texts : Some (optional (pieces 0 ends (slice_range bytes begin (begin + last))) valid) ≡ binaries_in wide count valid offsets bytes
+
+pub found_long : (wide : Bool) (count begin most : ℕ) (offsets ends : List ℕ) (found : Option (List ℕ)) → found ≡ Some ends → found ≡ risen most (behind begin (raw_offsets wide offsets 1 count)) → length ends ≡ count
+found_long wide count begin most offsets ends found some is =
+    ap length (found_risen found ends (behind begin (raw_offsets wide offsets 1 count)) most some is).0 ∙ length-ends wide offsets count begin
+
+pub ends_found : (wide : Bool) (count begin most last : ℕ) (valid : List Bool) (offsets bytes ends : List ℕ) (found : Option (List ℕ)) → IsReadAs wide count begin most offsets bytes → begin ≤ most → found ≡ Some ends
+    → found ≡ risen (most - begin) (behind begin (raw_offsets wide offsets 1 count)) → last ≡ get_or ends (count - 1) 0 → AreEnds wide count begin most last valid offsets bytes ends
+ends_found wide count begin most last valid offsets bytes ends found read below some is last_is =
+    let are = found_risen found ends (behind begin (raw_offsets wide offsets 1 count)) (most - begin) some is in
+    let long = found_long wide count begin (most - begin) offsets ends found some is in
+    let here : last ≡ get_or ends (count - 1) last = last_is ∙ same_default ends (count - 1) 0 last (omega (arith, long, read.some)) in
+    let inside = ends_within wide count begin most last offsets bytes read below ends are.0 are.1 here in
+    record {
+      within = inside.0;
+      rising = inside.1;
+      texts = binaries_in-good wide count begin most last valid offsets bytes read below ends are.0 are.1 here;
+    }
+
+-- no ends were found
+pub ends_missing : (wide : Bool) (count begin most : ℕ) (valid : List Bool) (offsets bytes : List ℕ) (found : Option (List ℕ)) → IsReadAs wide count begin most offsets bytes → begin ≤ most → found ≡ None
+    → found ≡ risen (most - begin) (behind begin (raw_offsets wide offsets 1 count)) → binaries_in wide count valid offsets bytes ≡ None
+ends_missing wide count begin most valid offsets bytes found read below none is =
+    let all = behind begin (raw_offsets wide offsets 1 count) in
+    binaries_in-falls wide count begin most valid offsets bytes read below all refl (none_risen found all (most - begin) none is)

@@ -3,6 +3,7 @@ use Rattle.std.specs.Prelude.{ℕ, ◌+◌, ◌-◌, ◌*◌, ◌%◌, ◌^◌, 
 use Rattle.std.specs.Int.{w32, w64}
 use Rattle.std.specs.List.{range_with_len}
 use Rattle.byteorder.specs.Endian.{little_number}
+use Rattle.sub_types.specs.OptionSteps.{when}
 use Rattle.arrow_meta.specs.Values.{offsets_in}
 
 -- the offsets of so many values
@@ -36,6 +37,10 @@ behind begin places = map (λ place. (place + (2 ^ 64 - begin)) % 2 ^ 64) places
 abbrev pub rises : ℕ → List ℕ → ℕ → Bool
 rises start [] most = nat_le start most
 rises start (end ∷ ends) most = nat_le start end && rises end ends most
+
+-- ends, if they rise from 0 on
+abbrev pub risen : ℕ → List ℕ → Option (List ℕ)
+risen most ends = when (rises 0 ends most) (Some ends)
 
 -- a text, if it is valid
 abbrev pub value_from : List ℕ → Bool → Option (List ℕ)

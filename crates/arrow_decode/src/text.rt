@@ -1,5 +1,5 @@
 // Columns of texts and binaries.
-ghost use Rattle.std.specs.Prelude.{◌≡◌, ◌↔◌, ◌+◌, ◌-◌, ◌*◌, ◌/◌, ◌%◌, ◌<◌, ◌≤◌, ◌^◌, length, vec_len, map, min, [], IfOk, IsTrue, option_copied};
+ghost use Rattle.std.specs.Prelude.{◌≡◌, ◌↔◌, ◌+◌, ◌-◌, ◌*◌, ◌/◌, ◌%◌, ◌<◌, ◌≤◌, ◌^◌, length, map, min, [], IfOk, IsTrue, option_copied};
 ghost use Rattle.std.specs.Char.{is_ascii};
 ghost use Rattle.std.specs.List.{concat, list_all, slice_range};
 ghost use Rattle.std.specs.Simd.{first_chunks};
@@ -8,11 +8,11 @@ ghost use Rattle.sub_types.specs.Optional.{optional};
 ghost use Rattle.sub_types.specs.Slots.{slots};
 ghost use Rattle.col_text.specs.Text.{pieces, Rise, NullsAreEmpty};
 ghost use Rattle.arrow_meta.specs.Values as spec;
-ghost use Rattle.arrow_decode.specs.Offsets.{offset_width, greatest_offset, front_offset, raw_offsets, behind, rises, value_from};
+ghost use Rattle.arrow_decode.specs.Offsets.{offset_width, greatest_offset, front_offset, raw_offsets, behind, rises, risen, value_from};
 ghost use Rattle.arrow_decode.specs.Characters.{BeginAtCharacters};
 
 use byteorder::{ByteOrder, LittleEndian};
-use col_text::{TextBuilder, TextCol};
+use col_text::{Ends, TextBuilder, TextCol};
 use std::alloc::Global;
 use sub_types::{Bits, NoMemory};
 
@@ -63,11 +63,10 @@ pub(crate) fn binaries(
     if begin > most {
         return Ok(None);
     }
-    let ends = read_ends(alloc, wide, count, begin, offsets)?;
-    if !rise(&ends, most - begin) {
+    let Some(ends) = find_ends(alloc, wide, count, begin, most - begin, offsets)? else {
         return Ok(None);
-    }
-    let end = begin + ends[count - 1];
+    };
+    let end = begin + ends.get(count - 1);
     Ok(Some(column_of(alloc, ends, part(bytes, begin, end), valid)?))
 }
 
@@ -103,26 +102,64 @@ fn first_offset(wide: bool, buffer: &[u8]) -> usize
     }
 }
 
-// Where `count` values end whose bytes begin at a place: the offsets behind the first, less that.
-fn read_ends(
+// Where `count` values end whose bytes begin at a place, the offsets behind the first less that, or none where one is
+// below the one before it or the last is above `most`.
+fn find_ends(
     alloc: Global,
     wide: bool,
     count: usize,
     begin: usize,
+    most: usize,
     buffer: &[u8],
-) -> Result<Vec<usize>, NoMemory>
+) -> Result<Option<Ends>, NoMemory>
     requires few { count < 2 ^ 31 }
     requires long { offset_width wide * (count + 1) ≤ length buffer.now }
-    ensures { IfOk result (λ ends. ends.items ≡ behind begin (raw_offsets wide buffer.now 1 count)) }
+    requires within { begin + most ≤ greatest_offset wide }
+    ensures { IfOk result (λ found. found ≡ risen most (behind begin (raw_offsets wide buffer.now 1 count))) }
 {
     let size = offset_size(wide);
     let (_, others) = buffer.split_at(size);
     let (others, _) = others.split_at(size * count);
     if wide {
-        read_wide_ends(alloc, begin, others)
+        find_wide_ends(alloc, begin, most, others)
     } else {
-        read_short_ends(alloc, begin, others)
+        find_short_ends(alloc, begin, most, others)
     }
+}
+
+// The same of offsets of eight bytes. Their ends take four bytes each where they can.
+fn find_wide_ends(
+    alloc: Global,
+    begin: usize,
+    most: usize,
+    buffer: &[u8],
+) -> Result<Option<Ends>, NoMemory>
+    ensures { IfOk result (λ found. found ≡ risen most (map (λ chunk. (little_number 8 chunk + (2 ^ 64 - begin)) % 2 ^ 64)
+        (first_chunks 8 (length buffer.now / 8) buffer.now))) }
+{
+    let places = read_wide_ends(alloc, begin, buffer)?;
+    if !rise(&places, most) {
+        return Ok(None);
+    }
+    Ok(Some(narrowed(alloc, &places)?))
+}
+
+// The same of offsets of four bytes.
+fn find_short_ends(
+    alloc: Global,
+    begin: usize,
+    most: usize,
+    buffer: &[u8],
+) -> Result<Option<Ends>, NoMemory>
+    requires { begin + most < 2 ^ 32 }
+    ensures { IfOk result (λ found. found ≡ risen most (map (λ chunk. (little_number 4 chunk + (2 ^ 64 - begin)) % 2 ^ 64)
+        (first_chunks 4 (length buffer.now / 4) buffer.now))) }
+{
+    let places = read_short_ends(alloc, begin as u32, buffer)?;
+    if !short_rise(&places, most) {
+        return Ok(None);
+    }
+    Ok(Some(Ends::from_narrow(alloc, places)))
 }
 
 fn read_wide_ends(alloc: Global, begin: usize, buffer: &[u8]) -> Result<Vec<usize>, NoMemory>
@@ -137,14 +174,26 @@ fn read_wide_ends(alloc: Global, begin: usize, buffer: &[u8]) -> Result<Vec<usiz
     Ok(ends)
 }
 
-fn read_short_ends(alloc: Global, begin: usize, buffer: &[u8]) -> Result<Vec<usize>, NoMemory>
-    ensures { IfOk result (λ ends. ends.items ≡ map (λ chunk. (little_number 4 chunk + (2 ^ 64 - begin)) % 2 ^ 64)
+// An offset that is below the first wraps round, and is then above any that a column has.
+fn read_short_ends(alloc: Global, begin: u32, buffer: &[u8]) -> Result<Vec<u32>, NoMemory>
+    ensures { IfOk result (λ ends. ends.items ≡ map (λ chunk. (little_number 4 chunk + (2 ^ 32 - begin)) % 2 ^ 32)
         (first_chunks 4 (length buffer.now / 4) buffer.now)) }
 {
     let (chunks, _) = buffer.as_chunks::<4>();
     let mut ends = Vec::with_capacity(alloc, chunks.len())?;
     for chunk in chunks {
-        ends.push_reserved((LittleEndian::read_u32(chunk) as usize).wrapping_sub(begin));
+        ends.push_reserved(LittleEndian::read_u32(chunk).wrapping_sub(begin));
+    }
+    Ok(ends)
+}
+
+// These ends, of four bytes each where they can be.
+fn narrowed(alloc: Global, places: &[usize]) -> Result<Ends, NoMemory>
+    ensures { IfOk result (λ ends. ends ≡ places.now) }
+{
+    let mut ends = Ends::with_capacity(alloc, places.len())?;
+    for place in places {
+        ends.push(*place)?;
     }
     Ok(ends)
 }
@@ -163,26 +212,35 @@ fn rise(ends: &[usize], most: usize) -> bool
     !falls && *last <= most
 }
 
+// The same of ends of four bytes.
+fn short_rise(ends: &[u32], most: usize) -> bool
+    ensures { result ≡ rises 0 ends.now most }
+{
+    let Some(last) = ends.last() else {
+        return true;
+    };
+    let mut is_falling = false;
+    for i in 1..ends.len() {
+        is_falling = is_falling | (ends[i] < ends[i - 1]);
+    }
+    !is_falling && *last as usize <= most
+}
+
 // The bytes between these ends, null where they aren't valid.
-fn column_of(
-    alloc: Global,
-    ends: Vec<usize>,
-    bytes: &[u8],
-    valid: Bits,
-) -> Result<TextCol, NoMemory>
-    requires rising { Rise 0 ends.items (length bytes.now) }
-    requires counted { vec_len ends ≡ length valid }
-    ensures { IfOk result (λ column. column ≡ optional (pieces 0 ends.items bytes.now) valid) }
+fn column_of(alloc: Global, ends: Ends, bytes: &[u8], valid: Bits) -> Result<TextCol, NoMemory>
+    requires rising { Rise 0 ends (length bytes.now) }
+    requires counted { length ends ≡ length valid }
+    ensures { IfOk result (λ column. column ≡ optional (pieces 0 ends bytes.now) valid) }
 {
     if !nulls_are_empty(&ends, &valid) {
         return without_nulls(alloc, &ends, bytes, &valid);
     }
     let bytes = bytes.to_vec(alloc)?;
-    Ok(TextCol::from_parts(ends, bytes, valid))
+    Ok(TextCol::from_ends(ends, bytes, valid))
 }
 
 // No null has bytes.
-fn nulls_are_empty(ends: &[usize], valid: &Bits) -> bool
+fn nulls_are_empty(ends: &Ends, valid: &Bits) -> bool
     requires { length ends.now ≡ length valid.now }
     ensures { IsTrue result → NullsAreEmpty 0 ends.now valid.now }
 {
@@ -191,10 +249,11 @@ fn nulls_are_empty(ends: &[usize], valid: &Bits) -> bool
     }
     let mut start = 0;
     for i in 0..ends.len() {
-        if !valid.get(i) && ends[i] != start {
+        let end = ends.get(i);
+        if !valid.get(i) && end != start {
             return false;
         }
-        start = ends[i];
+        start = end;
     }
     true
 }
@@ -202,7 +261,7 @@ fn nulls_are_empty(ends: &[usize], valid: &Bits) -> bool
 // The same where a null has bytes, which a column doesn't keep.
 fn without_nulls(
     alloc: Global,
-    ends: &[usize],
+    ends: &Ends,
     bytes: &[u8],
     valid: &Bits,
 ) -> Result<TextCol, NoMemory>
@@ -213,8 +272,9 @@ fn without_nulls(
     let mut builder = TextBuilder::new(alloc);
     let mut start = 0;
     for i in 0..ends.len() {
-        builder.push(value_between(bytes, start, ends[i], valid.get(i)))?;
-        start = ends[i];
+        let end = ends.get(i);
+        builder.push(value_between(bytes, start, end, valid.get(i)))?;
+        start = end;
     }
     Ok(builder.finish())
 }

@@ -1,10 +1,9 @@
-use Rattle.std.proofs.Common.{rules, tests, ◌≡◌, ◌∙◌, ℕ, ◌+◌, ◌-◌, ◌*◌, Some, true, false, length, ap, sym, arith}
+use Rattle.std.proofs.Common.{rules, tests, ◌≡◌, ◌∙◌, ℕ, ◌+◌, ◌-◌, ◌*◌, Some, length, ap, sym, arith}
 use Rattle.std.proofs.Math.Facts.{Fits-lt-pow}
 use Rattle.sub_types.specs.Optional.{optional}
 use Rattle.col_text.specs.Text.{pieces}
 use Rattle.arrow_meta.specs.Values.{binaries_in}
-use Rattle.arrow_decode.specs.Offsets.{rises}
-use Rattle.arrow_decode.proofs.TextLaws.{is_read_as, binaries_in-none, binaries_in-short, binaries_in-above, binaries_in-falls, binaries_in-good, ends_within, most-fits, length-ends, Rise-size}
+use Rattle.arrow_decode.proofs.TextLaws.{is_read_as, binaries_in-none, binaries_in-short, binaries_in-above, found_long, ends_found, ends_missing, most-fits, Rise-size}
 use Rattle.arrow_decode.proofs.text.binaries.Goals as goal
 
 pub returns-then-count-eq0 : goal.returns-then-count-eq0
@@ -23,49 +22,44 @@ returns-then-begin-most c =
     let is = is_read_as c.args.wide c.args.count c.offset_size.result c.first_offset-begin.result c.last_place-most.result c.args.offsets.now c.args.bytes.now (omega arith) c.offset_size.ensures.size (omega arith) (λ i. Fits-lt-pow (c.type_inv.offsets i)) c.first_offset-begin.ensures c.last_place-most.ensures in
     sym (binaries_in-above c.args.wide c.args.count c.first_offset-begin.result c.last_place-most.result c.args.valid c.args.offsets.now c.args.bytes.now is (omega arith))
 
-pub returns-then-not-rise : goal.returns-then-not-rise
-returns-then-not-rise c =
+pub returns-in_default : goal.returns-in_default
+returns-in_default c =
     let is = is_read_as c.args.wide c.args.count c.offset_size.result c.first_offset-begin.result c.last_place-most.result c.args.offsets.now c.args.bytes.now (omega arith) c.offset_size.ensures.size (omega arith) (λ i. Fits-lt-pow (c.type_inv.offsets i)) c.first_offset-begin.ensures c.last_place-most.ensures in
-    let falls : rises 0 c.in_ok-ends.ends.items (c.last_place-most.result - c.first_offset-begin.result) ≡ false = ap (λ es. rises 0 es (c.last_place-most.result - c.first_offset-begin.result)) (sym c.deref.ensures.value) ∙ sym c.if-not-rise.ensures in
-    sym (binaries_in-falls c.args.wide c.args.count c.first_offset-begin.result c.last_place-most.result c.args.valid c.args.offsets.now c.args.bytes.now is (omega arith) c.in_ok-ends.ends.items c.in_ok-ends.ensures falls)
+    sym (ends_missing c.args.wide c.args.count c.first_offset-begin.result c.last_place-most.result c.args.valid c.args.offsets.now c.args.bytes.now c.in_ok-ends.field-0 is (omega arith) c.in_default.is c.in_ok-ends.ensures)
 
-pub index-requires : goal.index-requires
-index-requires c =
-    let long = ap length c.in_ok-ends.ensures ∙ length-ends c.args.wide c.args.offsets.now c.args.count c.first_offset-begin.result in
-    omega (arith, long, c.in_ok-ends.ends.ok)
+pub get-requires : goal.get-requires
+get-requires c =
+    let long = found_long c.args.wide c.args.count c.first_offset-begin.result (c.last_place-most.result - c.first_offset-begin.result) c.args.offsets.now c.in-Some.ends c.in_ok-ends.field-0 c.in-Some.is c.in_ok-ends.ensures in
+    omega (arith, long)
 
 pub overflow_add-end : goal.overflow_add-end
 overflow_add-end c =
     let is = is_read_as c.args.wide c.args.count c.offset_size.result c.first_offset-begin.result c.last_place-most.result c.args.offsets.now c.args.bytes.now (omega arith) c.offset_size.ensures.size (omega arith) (λ i. Fits-lt-pow (c.type_inv.offsets i)) c.first_offset-begin.ensures c.last_place-most.ensures in
-    let rising : rises 0 c.in_ok-ends.ends.items (c.last_place-most.result - c.first_offset-begin.result) ≡ true = ap (λ es. rises 0 es (c.last_place-most.result - c.first_offset-begin.result)) (sym c.deref.ensures.value) ∙ sym c.if-not-rise.ensures in
-    let within = ends_within c.args.wide c.args.count c.first_offset-begin.result c.last_place-most.result c.index.result.now c.args.offsets.now c.args.bytes.now is (omega arith) c.in_ok-ends.ends.items c.in_ok-ends.ensures rising c.index.ensures in
+    let ends = ends_found c.args.wide c.args.count c.first_offset-begin.result c.last_place-most.result c.get.result c.args.valid c.args.offsets.now c.args.bytes.now c.in-Some.ends c.in_ok-ends.field-0 is (omega arith) c.in-Some.is c.in_ok-ends.ensures c.get.ensures in
     let fits = most-fits c.args.wide c.args.count c.first_offset-begin.result c.last_place-most.result c.args.offsets.now c.args.bytes.now is in
-    omega (arith, within.0, fits.0)
+    omega (arith, ends.within, fits.0)
 
 pub part-requires-clause-within : goal.part-requires-clause-within
 part-requires-clause-within c =
     let is = is_read_as c.args.wide c.args.count c.offset_size.result c.first_offset-begin.result c.last_place-most.result c.args.offsets.now c.args.bytes.now (omega arith) c.offset_size.ensures.size (omega arith) (λ i. Fits-lt-pow (c.type_inv.offsets i)) c.first_offset-begin.ensures c.last_place-most.ensures in
-    let rising : rises 0 c.in_ok-ends.ends.items (c.last_place-most.result - c.first_offset-begin.result) ≡ true = ap (λ es. rises 0 es (c.last_place-most.result - c.first_offset-begin.result)) (sym c.deref.ensures.value) ∙ sym c.if-not-rise.ensures in
-    let within = ends_within c.args.wide c.args.count c.first_offset-begin.result c.last_place-most.result c.index.result.now c.args.offsets.now c.args.bytes.now is (omega arith) c.in_ok-ends.ends.items c.in_ok-ends.ensures rising c.index.ensures in
+    let ends = ends_found c.args.wide c.args.count c.first_offset-begin.result c.last_place-most.result c.get.result c.args.valid c.args.offsets.now c.args.bytes.now c.in-Some.ends c.in_ok-ends.field-0 is (omega arith) c.in-Some.is c.in_ok-ends.ensures c.get.ensures in
     let fits = most-fits c.args.wide c.args.count c.first_offset-begin.result c.last_place-most.result c.args.offsets.now c.args.bytes.now is in
-    omega (arith, within.0, fits.1)
+    omega (arith, ends.within, fits.1)
 
 pub column_of-requires-clause-rising : goal.column_of-requires-clause-rising
 column_of-requires-clause-rising c =
     let is = is_read_as c.args.wide c.args.count c.offset_size.result c.first_offset-begin.result c.last_place-most.result c.args.offsets.now c.args.bytes.now (omega arith) c.offset_size.ensures.size (omega arith) (λ i. Fits-lt-pow (c.type_inv.offsets i)) c.first_offset-begin.ensures c.last_place-most.ensures in
-    let rising : rises 0 c.in_ok-ends.ends.items (c.last_place-most.result - c.first_offset-begin.result) ≡ true = ap (λ es. rises 0 es (c.last_place-most.result - c.first_offset-begin.result)) (sym c.deref.ensures.value) ∙ sym c.if-not-rise.ensures in
-    let within = ends_within c.args.wide c.args.count c.first_offset-begin.result c.last_place-most.result c.index.result.now c.args.offsets.now c.args.bytes.now is (omega arith) c.in_ok-ends.ends.items c.in_ok-ends.ensures rising c.index.ensures in
+    let ends = ends_found c.args.wide c.args.count c.first_offset-begin.result c.last_place-most.result c.get.result c.args.valid c.args.offsets.now c.args.bytes.now c.in-Some.ends c.in_ok-ends.field-0 is (omega arith) c.in-Some.is c.in_ok-ends.ensures c.get.ensures in
     let fits = most-fits c.args.wide c.args.count c.first_offset-begin.result c.last_place-most.result c.args.offsets.now c.args.bytes.now is in
-    Rise-size c.in_ok-ends.ends.items c.index.result.now c.first_offset-begin.result (length c.part.result.now) c.args.bytes.now within.1 (omega (arith, within.0, fits.1)) (ap length c.part.ensures)
+    Rise-size c.in-Some.ends c.get.result c.first_offset-begin.result (length c.part.result.now) c.args.bytes.now ends.rising (omega (arith, ends.within, fits.1)) (ap length c.part.ensures)
 
 pub column_of-requires-clause-counted : goal.column_of-requires-clause-counted
 column_of-requires-clause-counted c =
-    let long = ap length c.in_ok-ends.ensures ∙ length-ends c.args.wide c.args.offsets.now c.args.count c.first_offset-begin.result in
-    omega (arith, long, c.in_ok-ends.ends.ok, c.requires.long)
+    let long = found_long c.args.wide c.args.count c.first_offset-begin.result (c.last_place-most.result - c.first_offset-begin.result) c.args.offsets.now c.in-Some.ends c.in_ok-ends.field-0 c.in-Some.is c.in_ok-ends.ensures in
+    omega (arith, long, c.requires.long)
 
 pub returns : goal.returns
 returns c =
     let is = is_read_as c.args.wide c.args.count c.offset_size.result c.first_offset-begin.result c.last_place-most.result c.args.offsets.now c.args.bytes.now (omega arith) c.offset_size.ensures.size (omega arith) (λ i. Fits-lt-pow (c.type_inv.offsets i)) c.first_offset-begin.ensures c.last_place-most.ensures in
-    let rising : rises 0 c.in_ok-ends.ends.items (c.last_place-most.result - c.first_offset-begin.result) ≡ true = ap (λ es. rises 0 es (c.last_place-most.result - c.first_offset-begin.result)) (sym c.deref.ensures.value) ∙ sym c.if-not-rise.ensures in
-    ap (λ column. Some column) (c.in_ok-column_of.ensures ∙ ap (λ bytes. optional (pieces 0 c.in_ok-ends.ends.items bytes) c.args.valid) c.part.ensures)
-    ∙ binaries_in-good c.args.wide c.args.count c.first_offset-begin.result c.last_place-most.result c.index.result.now c.args.valid c.args.offsets.now c.args.bytes.now is (omega arith) c.in_ok-ends.ends.items c.in_ok-ends.ensures rising c.index.ensures
+    let ends = ends_found c.args.wide c.args.count c.first_offset-begin.result c.last_place-most.result c.get.result c.args.valid c.args.offsets.now c.args.bytes.now c.in-Some.ends c.in_ok-ends.field-0 is (omega arith) c.in-Some.is c.in_ok-ends.ensures c.get.ensures in
+    ap (λ column. Some column) (c.in_ok-column_of.ensures ∙ ap (λ bytes. optional (pieces 0 c.in-Some.ends bytes) c.args.valid) c.part.ensures) ∙ ends.texts
