@@ -1,5 +1,5 @@
 -- Results of all rows at once.
-use Rattle.std.proofs.Common.{◌≡◌, ◌∙◌, ℕ, zero, suc, ◌+◌, ◌<◌, ◌≤◌, ℤ, List, [], ◌∷◌, Bool, true, false, ◌&&◌, ◌||◌, cond, length, map, get_or, set, take, replicate, Option, Some, None, is_some, unwrap_or, option_map, Ok, Result, inl, inr, FitsSigned, refl, sym, ap, ap₂, subst, arith}
+use Rattle.std.proofs.Common.{◌≡◌, ◌∙◌, ℕ, zero, suc, ◌+◌, ◌<◌, ◌≤◌, ℤ, List, [], ◌∷◌, Bool, true, false, ◌&&◌, ◌||◌, cond, length, map, get_or, set, take, replicate, Option, Some, None, is_some, unwrap_or, option_map, Ok, Err, IfOk, IfSome, Vec, Result, inl, inr, FitsSigned, refl, sym, ap, ap₂, subst, arith}
 use Rattle.std.specs.Prelude.{int_lt}
 use Rattle.std.specs.Bool.{FalseIff}
 use Rattle.std.specs.Int.{Width, int_wrap}
@@ -15,7 +15,7 @@ use Rattle.sub_types.specs.Slots.{slots, length-slots}
 use Rattle.plan_typed.specs.declared.expr.Overflow.{Overflow}
 use Rattle.kernels.specs.declared.op.ArithOp.{ArithOp}
 use Rattle.kernels.specs.declared.selection.Stop.TheVariants.{Never}
-use Rattle.kernels.specs.Arith.{divides, exact, row, IsResult, AreResults}
+use Rattle.kernels.specs.Arith.{row, IsCombined, IsResult, AreResults, AreValid}
 use Rattle.kernels.specs.Until.{until}
 use Rattle.kernels.proofs.CompareLaws.{length-both_valid}
 use Rattle.kernels.proofs.UntilLaws.{IsSoFar, IsSoFar-none, IsSoFar-more, IsSoFar-end}
@@ -29,6 +29,15 @@ both_false : (a b : Bool) → (a || b) ≡ false → (a ≡ false) × (b ≡ fal
 both_false true b e = absurd (cc)
 both_false false b e = (refl, e)
 
+fine_where : (bad there : Bool) → there ≡ true → (bad && there) ≡ false → bad ≡ false
+fine_where true there here fine = absurd (cc)
+fine_where false there here fine = refl
+
+same_default : {T : Type 0} (xs : List T) (i : ℕ) (d e : T) → i < length xs → get_or xs i d ≡ get_or xs i e
+same_default [] i d e lt = absurd (omega arith)
+same_default (z ∷ xs) zero d e lt = refl
+same_default (z ∷ xs) (suc i) d e lt = same_default xs i d e (omega arith)
+
 module _ {T : Type 0} (op : ArithOp) (number : T → ℤ) (filler least greatest : T) (a b : List T) where
   -- the results so far, unless one was lost
   pub record KeepsResults (values : List T) (i : ℕ) (lost : Bool) : Type 0 where
@@ -39,15 +48,10 @@ module _ {T : Type 0} (op : ArithOp) (number : T → ℤ) (filler least greatest
   KeepsResults-none values long = record { long = long; results = λ fine. record { long = long; results = λ k lt. absurd (omega arith) } }
 
   pub KeepsResults-more : (values : List T) (i : ℕ) (lost is_lost beyond : Bool) (x y value : T) → KeepsResults values i lost → i < length a → x ≡ get_or a i x → y ≡ get_or b i y → length a ≡ length b
-      → (is_lost ≡ false → number value ≡ exact op (number x) (number y)) → beyond ≡ (int_lt (number value) (number least) || int_lt (number greatest) (number value))
+      → (is_lost ≡ false → IsCombined op (number x) (number y) (number value)) → beyond ≡ (int_lt (number value) (number least) || int_lt (number greatest) (number value))
       → KeepsResults (set values i value) (i + 1) ((lost || is_lost) || beyond)
   KeepsResults-more values i lost is_lost beyond x y value kept below is_x is_y same exactly ends = record { long = length-set values i value ∙ kept.long; results = results }
     where
-      same_default : (xs : List T) (i : ℕ) (d e : T) → i < length xs → get_or xs i d ≡ get_or xs i e
-      same_default [] i d e lt = absurd (omega arith)
-      same_default (z ∷ xs) zero d e lt = refl
-      same_default (z ∷ xs) (suc i) d e lt = same_default xs i d e (omega arith)
-
       results : ((lost || is_lost) || beyond) ≡ false → AreResults op number filler least greatest a b (set values i value) (i + 1)
       results fine =
           let outer = both_false (lost || is_lost) beyond fine in
@@ -57,7 +61,7 @@ module _ {T : Type 0} (op : ArithOp) (number : T → ℤ) (filler least greatest
           let at_a : x ≡ get_or a i filler = is_x ∙ same_default a i x filler below in
           let at_b : y ≡ get_or b i filler = is_y ∙ same_default b i y filler (omega arith) in
           let at_value : value ≡ get_or (set values i value) i filler = sym (get_or-set_same values i value filler (omega (arith, kept.long))) in
-          let new : IsResult op (number least) (number greatest) (number x) (number y) (number value) = record { is = exactly inner.1; low = within.0; high = within.1 } in
+          let new : IsResult op (number least) (number greatest) (number x) (number y) (number value) = record { divisible = (exactly inner.1).divisible; is = (exactly inner.1).is; low = within.0; high = within.1 } in
           record {
             long = length-set values i value ∙ kept.long;
             results = λ k lt. elim (cases_lt k i) [
@@ -72,6 +76,56 @@ module _ {T : Type 0} (op : ArithOp) (number : T → ℤ) (filler least greatest
                   (subst (λ x. IsResult op (number least) (number greatest) (number x) (number y) (number value)) at_a new)))
             ];
           }
+
+  -- the valid results so far, unless one was lost
+  pub record KeepsValid (valid : List Bool) (values : List T) (i : ℕ) (lost : Bool) : Type 0 where
+    pub long : length values ≡ length a
+    pub results : lost ≡ false → (k : ℕ) → k < i → get_or valid k false ≡ true → IsResult op (number least) (number greatest) (number (get_or a k filler)) (number (get_or b k filler)) (number (get_or values k filler))
+
+  pub KeepsValid-none : (valid : List Bool) (values : List T) → length values ≡ length a → KeepsValid valid values 0 false
+  KeepsValid-none valid values long = record { long = long; results = λ fine k lt there. absurd (omega arith) }
+
+  pub KeepsValid-more : (valid : List Bool) (values : List T) (i : ℕ) (lost is_lost beyond there : Bool) (x y value : T) → KeepsValid valid values i lost → i < length a → x ≡ get_or a i x → y ≡ get_or b i y → length a ≡ length b
+      → (is_lost ≡ false → IsCombined op (number x) (number y) (number value)) → beyond ≡ (int_lt (number value) (number least) || int_lt (number greatest) (number value)) → there ≡ get_or valid i false
+      → KeepsValid valid (set values i value) (i + 1) (lost || ((is_lost || beyond) && there))
+  KeepsValid-more valid values i lost is_lost beyond there x y value kept below is_x is_y same exactly ends is_there = record { long = length-set values i value ∙ kept.long; results = results }
+    where
+      results : (lost || ((is_lost || beyond) && there)) ≡ false → (k : ℕ) → k < i + 1 → get_or valid k false ≡ true → IsResult op (number least) (number greatest) (number (get_or a k filler)) (number (get_or b k filler)) (number (get_or (set values i value) k filler))
+      results fine k lt valid_k =
+          let outer = both_false lost ((is_lost || beyond) && there) fine in
+          elim (cases_lt k i) [
+            | inl before ↦
+                let apart : k ≡ i → ⊥ = λ e. absurd (omega arith) in
+                subst (λ v. IsResult op (number least) (number greatest) (number (get_or a k filler)) (number (get_or b k filler)) (number v)) (sym (get_or-set_other values i k value filler apart)) (kept.results outer.0 k before valid_k)
+            | inr after ↦
+                let e : i ≡ k = omega arith in
+                let here : there ≡ true = is_there ∙ ap (λ j. get_or valid j false) e ∙ valid_k in
+                let inner = both_false is_lost beyond (fine_where (is_lost || beyond) there here outer.1) in
+                let within = both_false (int_lt (number value) (number least)) (int_lt (number greatest) (number value)) (sym ends ∙ inner.1) in
+                let at_a : x ≡ get_or a i filler = is_x ∙ same_default a i x filler below in
+                let at_b : y ≡ get_or b i filler = is_y ∙ same_default b i y filler (omega arith) in
+                let at_value : value ≡ get_or (set values i value) i filler = sym (get_or-set_same values i value filler (omega (arith, kept.long))) in
+                let new : IsResult op (number least) (number greatest) (number x) (number y) (number value) = record { divisible = (exactly inner.0).divisible; is = (exactly inner.0).is; low = within.0; high = within.1 } in
+                subst (λ j. IsResult op (number least) (number greatest) (number (get_or a j filler)) (number (get_or b j filler)) (number (get_or (set values i value) j filler))) e
+                (subst (λ v. IsResult op (number least) (number greatest) (number (get_or a i filler)) (number (get_or b i filler)) (number v)) at_value
+                (subst (λ y. IsResult op (number least) (number greatest) (number (get_or a i filler)) (number y) (number value)) at_b
+                (subst (λ x. IsResult op (number least) (number greatest) (number x) (number y) (number value)) at_a new)))
+          ]
+
+  pub KeepsValid-all : (valid : List Bool) (values : List T) (i : ℕ) (lost : Bool) → KeepsValid valid values i lost → length a ≤ i → lost ≡ false → AreValid op number filler least greatest a b valid values
+  KeepsValid-all valid values i lost kept end fine = record { long = kept.long; results = λ k lt there. kept.results fine k (omega arith) there }
+
+  -- all results are those at the valid places
+  pub all_valid : (valid : List Bool) (values : List T) → AreResults op number filler least greatest a b values (length a) → AreValid op number filler least greatest a b valid values
+  all_valid valid values are = record { long = are.long; results = λ k lt there. are.results k lt }
+
+-- the same of what a loop over all places gives
+pub whole_valid : {T Z E : Type 0} (op : ArithOp) (number : T → ℤ) (filler least greatest : T) (a b : List T) (valid : List Bool) (found : Result (Option (Vec T Z)) E)
+    → IfOk found (λ all. IfSome all (λ values. AreResults op number filler least greatest a b values.items (length a)))
+    → IfOk found (λ all. IfSome all (λ values. AreValid op number filler least greatest a b valid values.items))
+whole_valid op number filler least greatest a b valid (Ok (Some values)) are = all_valid op number filler least greatest a b valid values.items are
+whole_valid op number filler least greatest a b valid (Ok None) are = tt
+whole_valid op number filler least greatest a b valid (Err fault) are = tt
 
 -- ---- columns
 
@@ -94,16 +148,16 @@ get_or-both (x ∷ xs) [] k same = absurd (omega arith)
 get_or-both (x ∷ xs) (y ∷ ys) zero same = refl
 get_or-both (x ∷ xs) (y ∷ ys) (suc k) same = get_or-both xs ys k (omega arith)
 
-module _ {T : Type 0} (op : ArithOp) (mode : Overflow) (w : Width) (number : T → ℤ) (filler least greatest : T) (exactly : divides op ≡ false) where
-  place : (x y : Option T) (value : T) → IsResult op (number least) (number greatest) (number (unwrap_or x filler)) (number (unwrap_or y filler)) (number value)
+module _ {T : Type 0} (op : ArithOp) (mode : Overflow) (w : Width) (number : T → ℤ) (filler least greatest : T) where
+  place : (x y : Option T) (value : T) → ((is_some x && is_some y) ≡ true → IsResult op (number least) (number greatest) (number (unwrap_or x filler)) (number (unwrap_or y filler)) (number value))
       → row op mode w (number least) (number greatest) (option_map number x) (option_map number y) ≡ Ok (option_map number (cond (is_some x && is_some y) (Some value) None))
-  place (Some x) (Some y) value r = rw (exactly, ← r.is, r.low, r.high) refl
+  place (Some x) (Some y) value r = let is = r refl in rw (is.divisible, ← is.is, is.low, is.high) refl
   place (Some x) None value r = refl
   place None (Some y) value r = refl
   place None None value r = refl
 
   -- all rows, if each result is within the range
-  pub rows-all : (a b : List (Option T)) (values : List T) → length a ≡ length b → AreResults op number filler least greatest (slots filler a) (slots filler b) values (length (slots filler a))
+  pub rows-all : (a b : List (Option T)) (values : List T) → length a ≡ length b → AreValid op number filler least greatest (slots filler a) (slots filler b) (both (map is_some a) (map is_some b)) values
       → until (λ i. row op mode w (number least) (number greatest) (option_map number (get_or a i None)) (option_map number (get_or b i None))) (range_with_len 0 (length a))
       ≡ record { values = map (option_map number) (optional values (both (map is_some a) (map is_some b))); stop = Never }
   rows-all a b values same are =
@@ -137,16 +191,16 @@ module _ {T : Type 0} (op : ArithOp) (mode : Overflow) (w : Width) (number : T �
       each : (k : ℕ) → k < length a → row op mode w (number least) (number greatest) (option_map number (get_or a k None)) (option_map number (get_or b k None)) ≡ Ok (get_or (map (option_map number) column) k None)
       each k lt =
           let ours : k < length (slots filler a) = let l = length-slots filler a in omega arith in
-          let result = are.results k ours in
-          let held = subst (λ y. IsResult op (number least) (number greatest) (number (unwrap_or (get_or a k None) filler)) (number y) (number (get_or values k filler))) (slot b k (omega arith))
-          (subst (λ x. IsResult op (number least) (number greatest) (number x) (number (get_or (slots filler b) k filler)) (number (get_or values k filler))) (slot a k lt) result) in
           let flags = get_or-both (map is_some a) (map is_some b) k (length-map a is_some ∙ same ∙ sym (length-map b is_some)) ∙ ap₂ ◌&&◌ (there a k lt) (there b k (omega arith)) in
+          let held : (is_some (get_or a k None) && is_some (get_or b k None)) ≡ true → IsResult op (number least) (number greatest) (number (unwrap_or (get_or a k None) filler)) (number (unwrap_or (get_or b k None) filler)) (number (get_or values k filler))
+          = λ there. subst (λ y. IsResult op (number least) (number greatest) (number (unwrap_or (get_or a k None) filler)) (number y) (number (get_or values k filler))) (slot b k (omega arith))
+          (subst (λ x. IsResult op (number least) (number greatest) (number x) (number (get_or (slots filler b) k filler)) (number (get_or values k filler))) (slot a k lt) (are.results k ours (flags ∙ there))) in
           place (get_or a k None) (get_or b k None) (get_or values k filler) held
           ∙ ap (λ value. Ok (option_map number value)) (sym (at_column k (is_some (get_or a k None) && is_some (get_or b k None)) flags))
           ∙ ap Ok (sym (get_or-map (option_map number) column k None None (omega (arith, long))))
 
   -- the same with a constant
-  pub rows-all_constant : (a : List (Option T)) (constant : T) (values : List T) → AreResults op number filler least greatest (slots filler a) (replicate (length (slots filler a)) constant) values (length (slots filler a))
+  pub rows-all_constant : (a : List (Option T)) (constant : T) (values : List T) → AreValid op number filler least greatest (slots filler a) (replicate (length (slots filler a)) constant) (map is_some a) values
       → until (λ i. row op mode w (number least) (number greatest) (option_map number (get_or a i None)) (Some (number constant))) (range_with_len 0 (length a))
       ≡ record { values = map (option_map number) (optional values (map is_some a)); stop = Never }
   rows-all_constant a constant values are =
@@ -178,12 +232,12 @@ module _ {T : Type 0} (op : ArithOp) (mode : Overflow) (w : Width) (number : T �
       each : (k : ℕ) → k < length a → row op mode w (number least) (number greatest) (option_map number (get_or a k None)) (Some (number constant)) ≡ Ok (get_or (map (option_map number) column) k None)
       each k lt =
           let ours : k < length (slots filler a) = let l = length-slots filler a in omega arith in
-          let result = are.results k ours in
           let at_a = get_or-map (λ value. unwrap_or value filler) a k None filler lt in
           let at_b = get_or-replicate (length (slots filler a)) k constant filler ours in
-          let held = subst (λ y. IsResult op (number least) (number greatest) (number (unwrap_or (get_or a k None) filler)) (number y) (number (get_or values k filler))) at_b
-          (subst (λ x. IsResult op (number least) (number greatest) (number x) (number (get_or (replicate (length (slots filler a)) constant) k filler)) (number (get_or values k filler))) at_a result) in
           let flags = get_or-map is_some a k None false lt ∙ and_true (is_some (get_or a k None)) in
+          let held : (is_some (get_or a k None) && true) ≡ true → IsResult op (number least) (number greatest) (number (unwrap_or (get_or a k None) filler)) (number constant) (number (get_or values k filler))
+          = λ there. subst (λ y. IsResult op (number least) (number greatest) (number (unwrap_or (get_or a k None) filler)) (number y) (number (get_or values k filler))) at_b
+          (subst (λ x. IsResult op (number least) (number greatest) (number x) (number (get_or (replicate (length (slots filler a)) constant) k filler)) (number (get_or values k filler))) at_a (are.results k ours (flags ∙ there))) in
           place (get_or a k None) (Some constant) (get_or values k filler) held
           ∙ ap (λ value. Ok (option_map number value)) (sym (at_column k (is_some (get_or a k None) && true) flags))
           ∙ ap Ok (sym (get_or-map (option_map number) column k None None (omega (arith, long))))

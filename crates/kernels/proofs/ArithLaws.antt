@@ -42,7 +42,7 @@ half w32 few = omega arith
 half w64 few = omega arith
 half w128 few = absurd (omega arith)
 
-abs-narrow : (w : Width) → bits w ≤ 64 → (x : ℤ) → FitsSigned w x → unsigned_abs x ≤ 2 ^ 63
+pub abs-narrow : (w : Width) → bits w ≤ 64 → (x : ℤ) → FitsSigned w x → unsigned_abs x ≤ 2 ^ 63
 abs-narrow w few (pos n) f = omega (arith, f.sfits, half w few)
 abs-narrow w few (negsuc n) f = omega (arith, f.sfits, half w few)
 

@@ -227,13 +227,13 @@ abbrev truth : Bool → Computed
 truth b = Ok (values.Bool b)
 
 module _ {T : Type 0} (number : T → ℤ) (op : CompareOp) where
-  int_compared : (a b : Option T) → result (compared number op a b) ≡ spec.compared (test_of op) (int_of number a) (int_of number b)
+  pub int_compared : (a b : Option T) → result (compared number op a b) ≡ spec.compared (test_of op) (int_of number a) (int_of number b)
   int_compared (Some x) (Some y) = ap (λ r. truth (test_of op r)) (sym (int_order (number x) (number y)))
   int_compared (Some x) None = refl
   int_compared None (Some y) = refl
   int_compared None None = refl
 
-  dec_compared : (a b : Option T) → result (compared number op a b) ≡ spec.compared (test_of op) (dec_of number a) (dec_of number b)
+  pub dec_compared : (a b : Option T) → result (compared number op a b) ≡ spec.compared (test_of op) (dec_of number a) (dec_of number b)
   dec_compared (Some x) (Some y) = ap (λ r. truth (test_of op r)) (sym (dec_order (number x) (number y)))
   dec_compared (Some x) None = refl
   dec_compared None (Some y) = refl

@@ -1,6 +1,8 @@
 pub mod TruthLaws
 pub mod PlaceLaws
+pub mod RowsLaws
 pub mod CompareLaws
+pub mod ConstantLaws
 pub mod TotalLaws
 pub mod UntilLaws
 pub mod ArithLaws

@@ -1,5 +1,5 @@
 -- Sums of numbers, one after another.
-use Rattle.std.proofs.Common.{◌≡◌, ◌∙◌, ℕ, zero, suc, ◌+◌, ◌*◌, ◌^◌, ◌<◌, ◌≤◌, ℤ, pos, neg_ℤ, ◌+ℤ◌, ◌≤ℤ◌, ◌<ℤ◌, List, [], ◌∷◌, length, get_or, take, Option, Some, None, refl, sym, ap, ap₂, arith, add-one, FitsSigned, to_z, of_z}
+use Rattle.std.proofs.Common.{◌≡◌, ◌∙◌, ℕ, zero, suc, ◌+◌, ◌*◌, ◌^◌, ◌<◌, ◌≤◌, ℤ, pos, neg_ℤ, ◌+ℤ◌, ◌≤ℤ◌, ◌<ℤ◌, List, [], ◌∷◌, length, get_or, take, Option, Some, None, refl, sym, ap, ap₂, arith, add-one, FitsSigned, to_z, of_z, unsigned_abs}
 use Rattle.std.specs.Int.{w128}
 use Rattle.std.proofs.lemmas.Int.{ints, to_z-of_z, fits_signed_from_abs}
 use Rattle.std.proofs.lemmas.List.{take_all}
@@ -107,3 +107,32 @@ module _ (whole : ℤ) (i : ℕ) (q r q' r' : ℤ) (few : i ≤ 2 ^ 31) (s : Spl
 
   pub carried : number_of (held (q +ℤ held q')) (held r') ≡ whole
   carried = ap₂ number_of (to_z-of_z w128 (q +ℤ held q') carried_fits ∙ ap (λ z. q +ℤ z) held_q') (held_remainder r' r_least r_below) ∙ carried_is
+
+-- ---- numbers of at most 64 bits
+
+-- the sum so far, and how large it is
+pub record IsShort (whole : ℤ) (i : ℕ) (sum : ℤ) : Type 0 where
+  pub is : sum ≡ whole
+  pub small : unsigned_abs sum ≤ i * 2 ^ 63
+
+pub IsShort-none : IsShort (pos 0) 0 (pos 0)
+IsShort-none = record { is = refl; small = omega arith }
+
+module _ (whole n : ℤ) (i : ℕ) (sum x : ℤ) (few : i < 2 ^ 31) (s : IsShort whole i sum) (is : x ≡ n) (narrow : unsigned_abs n ≤ 2 ^ 63) where
+  abs_x : unsigned_abs x ≤ 2 ^ 63
+  abs_x = rw is narrow
+
+  held_x : held x ≡ x
+  held_x = to_z-of_z w128 x (fits_signed_from_abs w128 x (omega (arith, abs_x)))
+
+  abs_sum : unsigned_abs (sum +ℤ x) ≤ (i + 1) * 2 ^ 63
+  abs_sum = let small = s.small in let abs = abs_x in omega (arith, ints)
+
+  sum_fits : FitsSigned w128 (sum +ℤ x)
+  sum_fits = fits_signed_from_abs w128 (sum +ℤ x) (omega (arith, abs_sum))
+
+  pub short_fits : FitsSigned w128 (sum +ℤ held x)
+  short_fits = rw held_x sum_fits
+
+  pub short-more : IsShort (whole +ℤ n) (i + 1) (held (sum +ℤ held x))
+  short-more = rw (held_x, to_z-of_z w128 (sum +ℤ x) sum_fits) record { is = ap₂ ◌+ℤ◌ s.is is; small = abs_sum }

@@ -1,10 +1,10 @@
 -- Three-valued logic on the bits of bytes.
-use Rattle.std.proofs.Common.{◌≡◌, ◌∙◌, ℕ, zero, suc, ◌+◌, ◌-◌, ◌*◌, ◌/◌, ◌%◌, ◌<◌, ◌≤◌, List, [], ◌∷◌, ◌++◌, Bool, true, false, not, ◌&&◌, ◌||◌, length, map, get_or, nat_eq, min, max, bit_and, bit_or, bit_xor, cond, Option, Some, None, is_some, Result, Ok, Err, IfOk, inl, inr, refl, sym, ap, ap₂, arith}
+use Rattle.std.proofs.Common.{◌≡◌, ◌∙◌, ℕ, zero, suc, ◌+◌, ◌-◌, ◌*◌, ◌/◌, ◌%◌, ◌<◌, ◌≤◌, List, [], ◌∷◌, Bool, true, false, not, ◌&&◌, ◌||◌, length, map, get_or, set, nat_eq, min, max, bit_and, bit_or, bit_xor, cond, Option, Some, None, is_some, Result, Ok, Err, IfOk, inl, inr, refl, sym, ap, ap₂, subst, arith}
 use Rattle.std.specs.Int.{bit_at, w8}
 use Rattle.std.specs.List.{range_with_len}
 use Rattle.std.proofs.lemmas.Nat.Bits.{bit_at-lt, bit_at_and, bit_at_or, bit_at_xor, bit_at_not}
 use Rattle.std.proofs.lemmas.Bool.{cases_lt}
-use Rattle.std.proofs.lemmas.List.{get_or_append_left, length-append, length-map}
+use Rattle.std.proofs.lemmas.List.{length-map, length-set, get_or-set_same, get_or-set_other}
 use Rattle.std.proofs.lemmas.List.FromFn.{length-map-range_with_len, get_or-map-range_with_len, fill_by_all}
 use Rattle.std.proofs.lemmas.Simd.{zip2-map}
 use lib.Lanes.{zip2}
@@ -14,7 +14,9 @@ use Rattle.sub_types.specs.Slots.{slots, optional-slots, length-slots}
 use Rattle.sub_types.specs.Nullable.{bool_value}
 use Rattle.plan_denote.specs.Logic.{three_valued, xor_of, not_of}
 use Rattle.plan_denote.specs.Computed.{Computed}
-use Rattle.kernels.specs.Truths.{is_set, truth_at, both, either, differ, opposite}
+use Rattle.kernels.specs.declared.logic.Connective.{Connective}
+use Rattle.kernels.specs.declared.logic.Connective.TheVariants.{And, Or, Xor, Not}
+use Rattle.kernels.specs.Truths.{is_set, truth_at, both, either, differ, opposite, connected, value_eight, valid_eight, AreMade}
 
 -- ---- bits of one byte
 
@@ -129,23 +131,23 @@ opposite-bits false true = refl
 opposite-bits true false = refl
 opposite-bits true true = refl
 
-pub eight-both : (a va b vb k : ℕ) → a < 256 → b < 256 → k < 8 → truth_at (bit_and a b) (bit_or (bit_or (bit_and va vb) (bit_and va (255 - a))) (bit_and vb (255 - b))) k ≡ both (truth_at a va k) (truth_at b vb k)
+eight-both : (a va b vb k : ℕ) → a < 256 → b < 256 → k < 8 → truth_at (bit_and a b) (bit_or (bit_or (bit_and va vb) (bit_and va (255 - a))) (bit_and vb (255 - b))) k ≡ both (truth_at a va k) (truth_at b vb k)
 eight-both a va b vb k la lb lt =
     let valid = set-or (bit_or (bit_and va vb) (bit_and va (255 - a))) (bit_and vb (255 - b)) k
     ∙ ap₂ ◌||◌ (set-or (bit_and va vb) (bit_and va (255 - a)) k ∙ ap₂ ◌||◌ (set-and va vb k) (set-and va (255 - a) k ∙ ap (λ c. is_set va k && c) (set-not a k la lt)))
     (set-and vb (255 - b) k ∙ ap (λ c. is_set vb k && c) (set-not b k lb lt)) in
     ap₂ truth valid (set-and a b k) ∙ both-bits (is_set a k) (is_set va k) (is_set b k) (is_set vb k)
 
-pub eight-either : (a va b vb k : ℕ) → truth_at (bit_or (bit_and a va) (bit_and b vb)) (bit_or (bit_or (bit_and va vb) (bit_and va a)) (bit_and vb b)) k ≡ either (truth_at a va k) (truth_at b vb k)
+eight-either : (a va b vb k : ℕ) → truth_at (bit_or (bit_and a va) (bit_and b vb)) (bit_or (bit_or (bit_and va vb) (bit_and va a)) (bit_and vb b)) k ≡ either (truth_at a va k) (truth_at b vb k)
 eight-either a va b vb k =
     let valid = set-or (bit_or (bit_and va vb) (bit_and va a)) (bit_and vb b) k ∙ ap₂ ◌||◌ (set-or (bit_and va vb) (bit_and va a) k ∙ ap₂ ◌||◌ (set-and va vb k) (set-and va a k)) (set-and vb b k) in
     let value = set-or (bit_and a va) (bit_and b vb) k ∙ ap₂ ◌||◌ (set-and a va k) (set-and b vb k) in
     ap₂ truth valid value ∙ either-bits (is_set a k) (is_set va k) (is_set b k) (is_set vb k)
 
-pub eight-differ : (a va b vb k : ℕ) → truth_at (bit_xor a b) (bit_and va vb) k ≡ differ (truth_at a va k) (truth_at b vb k)
+eight-differ : (a va b vb k : ℕ) → truth_at (bit_xor a b) (bit_and va vb) k ≡ differ (truth_at a va k) (truth_at b vb k)
 eight-differ a va b vb k = ap₂ truth (set-and va vb k) (set-xor a b k) ∙ differ-bits (is_set a k) (is_set va k) (is_set b k) (is_set vb k)
 
-pub eight-opposite : (a va k : ℕ) → a < 256 → k < 8 → truth_at (255 - a) va k ≡ opposite (truth_at a va k)
+eight-opposite : (a va k : ℕ) → a < 256 → k < 8 → truth_at (255 - a) va k ≡ opposite (truth_at a va k)
 eight-opposite a va k la lt = ap (truth (is_set va k)) (set-not a k la lt) ∙ opposite-bits (is_set a k) (is_set va k)
 
 -- ---- bytes of a column
@@ -175,34 +177,50 @@ pub record Reaches (f : Option Bool → Option Bool → Option Bool) (av ak bv b
   pub long_valid : length k ≡ i
   pub made : (j : ℕ) → j < i → (bit : ℕ) → bit < 8 → truth_at (get_or v j 0) (get_or k j 0) bit ≡ f (truth_at (get_or av j 0) (get_or ak j 0) bit) (truth_at (get_or bv j 0) (get_or bk j 0) bit)
 
-pub Reaches-none : (f : Option Bool → Option Bool → Option Bool) (av ak bv bk : List ℕ) → Reaches f av ak bv bk [] [] 0
-Reaches-none f av ak bv bk = record { long_values = refl; long_valid = refl; made = λ j lt bit below. absurd (omega arith) }
+-- the bytes that a loop makes, so far and at its end
+module _ (f : ℕ → ℕ → ℕ → ℕ → ℕ) (a va b vb : List ℕ) where
+  pub AreMade-none : (bytes : List ℕ) → length bytes ≡ length a → AreMade f a va b vb bytes 0
+  AreMade-none bytes long = record { long = long; made = λ k lt. absurd (omega arith) }
 
-pub Reaches-more : (f : Option Bool → Option Bool → Option Bool) (av ak bv bk v k : List ℕ) (i x y : ℕ) → Reaches f av ak bv bk v k i
-    → ((bit : ℕ) → bit < 8 → truth_at x y bit ≡ f (truth_at (get_or av i 0) (get_or ak i 0) bit) (truth_at (get_or bv i 0) (get_or bk i 0) bit))
-    → Reaches f av ak bv bk (v ++ x ∷ []) (k ++ y ∷ []) (i + 1)
-Reaches-more f av ak bv bk v k i x y r here =
+  pub AreMade-more : (bytes : List ℕ) (i x : ℕ) → AreMade f a va b vb bytes i → i < length a → x ≡ f (get_or a i 0) (get_or va i 0) (get_or b i 0) (get_or vb i 0) → AreMade f a va b vb (set bytes i x) (i + 1)
+  AreMade-more bytes i x so_far below is =
+      record {
+        long = length-set bytes i x ∙ so_far.long;
+        made = λ k lt. elim (cases_lt k i) [
+          | inl before ↦
+              let apart : k ≡ i → ⊥ = λ e. absurd (omega arith) in
+              get_or-set_other bytes i k x 0 apart ∙ so_far.made k before
+          | inr after ↦
+              let e : i ≡ k = omega arith in
+              subst (λ j. get_or (set bytes i x) j 0 ≡ f (get_or a j 0) (get_or va j 0) (get_or b j 0) (get_or vb j 0)) e
+              (get_or-set_same bytes i x 0 (omega (arith, so_far.long)) ∙ is)
+        ];
+      }
+
+  pub AreMade-all : (bytes : List ℕ) (i : ℕ) → AreMade f a va b vb bytes i → length a ≤ i → AreMade f a va b vb bytes (length a)
+  AreMade-all bytes i so_far end = record { long = so_far.long; made = λ k lt. so_far.made k (omega arith) }
+
+-- columns of the same length have as many bytes
+pub same_bytes : (m n : ℕ) (xs ys : List ℕ) → IsPacked m xs → IsPacked n ys → m ≡ n → length xs ≡ length ys
+same_bytes m n xs ys p q e = omega (arith, p.enough, p.no_more, q.enough, q.no_more)
+
+eight : (connective : Connective) (a va b vb k : ℕ) → a < 256 → b < 256 → k < 8 → truth_at (value_eight connective a va b vb) (valid_eight connective a va b vb) k ≡ connected connective (truth_at a va k) (truth_at b vb k)
+eight And a va b vb k la lb lt = eight-both a va b vb k la lb lt
+eight Or a va b vb k la lb lt = eight-either a va b vb k
+eight Xor a va b vb k la lb lt = eight-differ a va b vb k
+eight Not a va b vb k la lb lt = eight-opposite a va k la lt
+
+-- both lists of bytes together
+pub reached : (connective : Connective) (av ak bv bk v k : List ℕ) → ((j : ℕ) → get_or av j 0 < 256) → ((j : ℕ) → get_or bv j 0 < 256)
+    → AreMade (value_eight connective) av ak bv bk v (length av) → AreMade (valid_eight connective) av ak bv bk k (length av) → Reaches (connected connective) av ak bv bk v k (length av)
+reached connective av ak bv bk v k la lb values valid =
     record {
-      long_values = simp length-append (omega (arith, r.long_values));
-      long_valid = simp length-append (omega (arith, r.long_valid));
-      made = λ j lt bit below. elim (cases_lt j i) [
-        | inl before ↦
-            let old : get_or (v ++ x ∷ []) j 0 ≡ get_or v j 0 = get_or_append_left v (x ∷ []) 0 j (omega (arith, r.long_values)) in
-            let old' : get_or (k ++ y ∷ []) j 0 ≡ get_or k j 0 = get_or_append_left k (y ∷ []) 0 j (omega (arith, r.long_valid)) in
-            ap₂ (λ v k. truth_at v k bit) old old' ∙ r.made j before bit below
-        | inr after ↦
-            let e : j ≡ i = omega arith in
-            let new : get_or (v ++ x ∷ []) j 0 ≡ x = last v x j (omega (arith, r.long_values)) in
-            let new' : get_or (k ++ y ∷ []) j 0 ≡ y = last k y j (omega (arith, r.long_valid)) in
-            ap₂ (λ v k. truth_at v k bit) new new' ∙ rw e (here bit below)
-      ];
+      long_values = values.long;
+      long_valid = valid.long;
+      made = λ j lt bit below.
+          ap₂ (λ v k. truth_at v k bit) (values.made j lt) (valid.made j lt)
+          ∙ eight connective (get_or av j 0) (get_or ak j 0) (get_or bv j 0) (get_or bk j 0) bit (la j) (lb j) below;
     }
-  where
-    last : (xs : List ℕ) (x j : ℕ) → j ≡ length xs → get_or (xs ++ x ∷ []) j 0 ≡ x
-    last [] x zero e = refl
-    last [] x (suc j) e = absurd (omega arith)
-    last (w ∷ xs) x zero e = absurd (omega arith)
-    last (w ∷ xs) x (suc j) e = last xs x j (omega arith)
 
 optional-cons : (b x : Bool) (xs bs : List Bool) (rest : List (Option Bool)) → optional xs bs ≡ rest → optional (x ∷ xs) (b ∷ bs) ≡ truth b x ∷ rest
 optional-cons true x xs bs rest e = ap (λ r. Some x ∷ r) e

@@ -84,8 +84,14 @@ abbrev pub IsExact : Result (Option ℤ) FaultKind → ArithOp → ℤ → ℤ �
 IsExact (Ok n) op x y = ((divides op && is_zero y) ≡ false) × SomeIff n (FitsSigned w128 (exact op x y)) (exact op x y)
 IsExact (Err kind) op x y = ((divides op && is_zero y) ≡ true) × (kind ≡ faults.DivideByZero)
 
+-- an exact result of two numbers
+pub record IsCombined (op : ArithOp) (x y result : ℤ) : Type 0 where
+  pub divisible : (divides op && is_zero y) ≡ false
+  pub is : result ≡ exact op x y
+
 -- a result of two numbers within the range
 pub record IsResult (op : ArithOp) (least greatest x y result : ℤ) : Type 0 where
+  pub divisible : (divides op && is_zero y) ≡ false
   pub is : result ≡ exact op x y
   pub low : int_lt result least ≡ false
   pub high : int_lt greatest result ≡ false
@@ -94,3 +100,8 @@ pub record IsResult (op : ArithOp) (least greatest x y result : ℤ) : Type 0 wh
 pub record AreResults {T : Type 0} (op : ArithOp) (number : T → ℤ) (filler least greatest : T) (a b values : List T) (count : ℕ) : Type 0 where
   pub long : length values ≡ length a
   pub results : (k : ℕ) → k < count → IsResult op (number least) (number greatest) (number (slice_index_or a k filler)) (number (slice_index_or b k filler)) (number (slice_index_or values k filler))
+
+-- the results at those of all places that are valid
+pub record AreValid {T : Type 0} (op : ArithOp) (number : T → ℤ) (filler least greatest : T) (a b : List T) (valid : List Bool) (values : List T) : Type 0 where
+  pub long : length values ≡ length a
+  pub results : (k : ℕ) → k < length a → slice_index_or valid k false ≡ true → IsResult op (number least) (number greatest) (number (slice_index_or a k filler)) (number (slice_index_or b k filler)) (number (slice_index_or values k filler))

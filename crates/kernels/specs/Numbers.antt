@@ -36,3 +36,12 @@ holds number op x y = test_of op (int_cmp (number x) (number y))
 abbrev pub compared : {T : Type 0} → (T → ℤ) → CompareOp → Option T → Option T → Option Bool
 compared number op (Some x) (Some y) = Some (holds number op x y)
 compared number op _ _ = None
+
+-- the comparison that holds of two values where this one holds of them the other way round
+abbrev pub turned : CompareOp → CompareOp
+turned Eq = Eq
+turned Ne = Ne
+turned Lt = Gt
+turned Le = Ge
+turned Gt = Lt
+turned Ge = Le

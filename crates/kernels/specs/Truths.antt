@@ -1,5 +1,5 @@
 -- Three-valued logic on optional truth values, as two bits hold one: whether it is true, and whether it is there.
-use Rattle.std.specs.Prelude.{ℕ, Bool, true, false, not, Option, Some, None, ◌==◌, if◌then◌else◌}
+use Rattle.std.specs.Prelude.{◌≡◌, ℕ, ◌-◌, ◌<◌, List, length, slice_index, bit_and, bit_or, bit_xor, Bool, true, false, not, Option, Some, None, ◌==◌, if◌then◌else◌}
 use Rattle.std.specs.Int.{bit_at}
 use Rattle.std.proofs.Math.Bool.{beq}
 use Rattle.kernels.specs.declared.logic.Connective.{Connective}
@@ -38,3 +38,21 @@ connected And a b = both a b
 connected Or a b = either a b
 connected Xor a b = differ a b
 connected Not a b = opposite a
+
+-- the values and the validity of eight places: a byte of each, from those of both columns
+abbrev pub value_eight : Connective → ℕ → ℕ → ℕ → ℕ → ℕ
+value_eight And a a_valid b b_valid = bit_and a b
+value_eight Or a a_valid b b_valid = bit_or (bit_and a a_valid) (bit_and b b_valid)
+value_eight Xor a a_valid b b_valid = bit_xor a b
+value_eight Not a a_valid b b_valid = 255 - a
+
+abbrev pub valid_eight : Connective → ℕ → ℕ → ℕ → ℕ → ℕ
+valid_eight And a a_valid b b_valid = bit_or (bit_or (bit_and a_valid b_valid) (bit_and a_valid (255 - a))) (bit_and b_valid (255 - b))
+valid_eight Or a a_valid b b_valid = bit_or (bit_or (bit_and a_valid b_valid) (bit_and a_valid a)) (bit_and b_valid b)
+valid_eight Xor a a_valid b b_valid = bit_and a_valid b_valid
+valid_eight Not a a_valid b b_valid = a_valid
+
+-- the first so many bytes are what a function makes of those of both columns
+pub record AreMade (f : ℕ → ℕ → ℕ → ℕ → ℕ) (a a_valid b b_valid bytes : List ℕ) (count : ℕ) : Type 0 where
+  pub long : length bytes ≡ length a
+  pub made : (k : ℕ) → k < count → slice_index bytes k ≡ f (slice_index a k) (slice_index a_valid k) (slice_index b k) (slice_index b_valid k)

@@ -1,6 +1,6 @@
 //! Arithmetic on numbers (Substrait functions_arithmetic.yaml and functions_arithmetic_decimal.yaml), row by row up to the
 //! first fault.
-ghost use Rattle.std.specs.Prelude.{◌≡◌, ℕ, false, [], ◌∷◌, length, map, option_map, slice_index_or, Some, None, IfOk, FitsSigned};
+ghost use Rattle.std.specs.Prelude.{◌≡◌, ℕ, false, [], ◌∷◌, length, replicate, map, option_map, slice_index_or, Some, None, IfOk, IfSome, FitsSigned};
 ghost use Rattle.std.specs.List.{range_with_len};
 ghost use Rattle.sub_types.specs.declared.fault.FaultKind.TheVariants as faults;
 ghost use Rattle.sub_types.specs.declared.kind.Kind.{Kind};
@@ -10,13 +10,13 @@ ghost use Rattle.kernels.specs.Numbers as numbers;
 ghost use Rattle.kernels.specs.Arith as spec;
 ghost use Rattle.kernels.specs.Until.{Until, until};
 
-use crate::all_rows::{compute_all, compute_all_constant};
+use crate::all_rows::{compute_all, compute_all_constant, compute_valid, compute_valid_constant};
 use crate::comparison::{both_valid, validity};
 use crate::{ArithOp, Stop};
 use col_fixed::{Fixed, FixedBuilder, Native, View};
 use plan_typed::Overflow;
 use std::alloc::Global;
-use sub_types::{FaultKind, NoMemory};
+use sub_types::{Bits, FaultKind, NoMemory};
 
 /// The result at each place before the first fault, null where one of the two is null, and that fault. `least` and
 /// `greatest` bound the kind of the results; of decimals all are of one scale. A result beyond the kind is a fault, the nearest
@@ -76,14 +76,32 @@ fn compute_columns<T: Native>(
     ensures { IfOk result (λ answer. until (λ i. spec.row op mode T.width (T.number range.0) (T.number range.1) (option_map T.number (slice_index_or a.now i None)) (option_map T.number (slice_index_or b.now i None))) (range_with_len 0 (length a.now))
         ≡ record { values = map (option_map T.number) answer.0; stop = answer.1 }) }
 {
-    if is_division(op) {
-        return compute_rows(alloc, op, mode, range, a, b);
-    }
-    let Some(values) = compute_all(alloc, op, range, a.values(), b.values())? else {
+    let valid = both_valid(alloc, a, b)?;
+    let Some(values) = computed(alloc, op, range, a.values(), b.values(), &valid)? else {
         return compute_rows(alloc, op, mode, range, a, b);
     };
-    let valid = both_valid(alloc, a, b)?;
     Ok((Fixed::from_parts(values, valid), Stop::Never))
+}
+
+// The results at the valid places, unless one of these is beyond the range or can't be divided. A null's 0 divides nothing, so
+// a division looks at which are valid; elsewhere a null that is beyond the range is rare, and looking costs more.
+fn computed<T: Native>(
+    alloc: Global,
+    op: ArithOp,
+    range: (T, T),
+    a: &[T],
+    b: &[T],
+    valid: &Bits,
+) -> Result<Option<Vec<T>>, NoMemory>
+    requires same { length a.now ≡ length b.now }
+    requires valid { length valid.now ≡ length a.now }
+    ensures { IfOk result (λ all. IfSome all (λ values. spec.AreValid op T.number T.zero range.0 range.1 a.now b.now valid.now values.items)) }
+{
+    if is_division(op) {
+        compute_valid(alloc, op, range, a, b, valid)
+    } else {
+        compute_all(alloc, op, range, a, b)
+    }
 }
 
 fn is_division(op: ArithOp) -> bool
@@ -132,14 +150,30 @@ fn compute_column<T: Native>(
     ensures { IfOk result (λ answer. until (λ i. spec.row op mode T.width (T.number range.0) (T.number range.1) (option_map T.number (slice_index_or a.now i None)) (Some (T.number constant))) (range_with_len 0 (length a.now))
         ≡ record { values = map (option_map T.number) answer.0; stop = answer.1 }) }
 {
-    if is_division(op) {
-        return compute_rows_constant(alloc, op, mode, range, a, constant);
-    }
-    let Some(values) = compute_all_constant(alloc, op, range, a.values(), constant)? else {
+    let valid = validity(alloc, a)?;
+    let Some(values) = computed_constant(alloc, op, range, a.values(), constant, &valid)? else {
         return compute_rows_constant(alloc, op, mode, range, a, constant);
     };
-    let valid = validity(alloc, a)?;
     Ok((Fixed::from_parts(values, valid), Stop::Never))
+}
+
+// The same with a constant on the right.
+fn computed_constant<T: Native>(
+    alloc: Global,
+    op: ArithOp,
+    range: (T, T),
+    a: &[T],
+    constant: T,
+    valid: &Bits,
+) -> Result<Option<Vec<T>>, NoMemory>
+    requires { length valid.now ≡ length a.now }
+    ensures { IfOk result (λ all. IfSome all (λ values. spec.AreValid op T.number T.zero range.0 range.1 a.now (replicate (length a.now) constant) valid.now values.items)) }
+{
+    if is_division(op) {
+        compute_valid_constant(alloc, op, range, a, constant, valid)
+    } else {
+        compute_all_constant(alloc, op, range, a, constant)
+    }
 }
 
 fn compute_rows_constant<T: Native>(
@@ -204,7 +238,7 @@ fn compute<T: Native>(
 }
 
 // The exact result, unless the divisor is 0 or 128 bits don't hold it.
-fn exact(op: ArithOp, x: i128, y: i128) -> Result<Option<i128>, FaultKind>
+pub(crate) fn exact(op: ArithOp, x: i128, y: i128) -> Result<Option<i128>, FaultKind>
     ensures { spec.IsExact result op x y }
 {
     match op {

@@ -5,17 +5,21 @@
 mod all_rows;
 mod arithmetic;
 mod comparison;
+mod constants;
 mod logic;
 mod op;
 mod places;
+mod selected;
 mod selection;
 mod total;
 
 pub use arithmetic::{arith, arith_constant};
 pub use comparison::{compare, compare_constant};
+pub use constants::{arith_from, arith_with, compare_from, compare_with};
 pub use logic::{and3, not3, or3, xor3};
 pub use op::{ArithOp, CompareOp};
 pub use places::select;
+pub use selected::Rows;
 pub use selection::{Selection, Stop};
 pub use text_match::{contains, ends_with, like, starts_with};
 pub use total::{WideSum, sum};

@@ -1,6 +1,6 @@
 //! The functions of truth values (Substrait functions_boolean.yaml), by whole bytes of values and validity: true, false and
 //! null are two bits each.
-ghost use Rattle.std.specs.Prelude.{◌≡◌, ℕ, ◌<◌, length, map, Ok, true, false, IfOk};
+ghost use Rattle.std.specs.Prelude.{◌≡◌, ℕ, ◌<◌, length, slice_index, map, Ok, true, false, IfOk};
 ghost use Rattle.std.specs.Simd.Lanes.{zip2};
 ghost use Rattle.sub_types.specs.Nullable.{bool_value};
 ghost use Rattle.plan_denote.specs.Logic as spec;
@@ -50,7 +50,7 @@ pub fn not3(alloc: Global, a: &BoolCol) -> Result<BoolCol, NoMemory>
     connect(alloc, Connective::Not, a, a)
 }
 
-// Eight values at a time.
+// Eight values at a time: the bytes of values, and then those of validity.
 fn connect(
     alloc: Global,
     connective: Connective,
@@ -65,37 +65,85 @@ fn connect(
     let a_valid = a.validity().bytes();
     let b_values = b.values().bytes();
     let b_valid = b.validity().bytes();
-    let count = a_values.len();
-    let mut values = Vec::with_capacity(alloc, count)?;
-    let mut valid = Vec::with_capacity(alloc, count)?;
-    for i in 0..count {
-        let (value, is_valid) = connect_eight(
-            connective,
-            a_values[i],
-            a_valid[i],
-            b_values[i],
-            b_valid[i],
-        );
-        values.push(value)?;
-        valid.push(is_valid)?;
-    }
+    are_bytes(a_values);
+    are_bytes(b_values);
+    let values = value_bytes(alloc, connective, a_values, a_valid, b_values, b_valid)?;
+    let valid = valid_bytes(alloc, connective, a_values, a_valid, b_values, b_valid)?;
     Ok(BoolCol::from_parts(
         Bits::from_packed(values, len),
         Bits::from_packed(valid, len),
     ))
 }
 
-// A byte of values and a byte of validity of each column give those of the result.
-fn connect_eight(connective: Connective, a: u8, a_valid: u8, b: u8, b_valid: u8) -> (u8, u8)
-    ensures { (k : ℕ) → k < 8 → truths.truth_at result.0 result.1 k ≡ truths.connected connective (truths.truth_at a a_valid k) (truths.truth_at b b_valid k) }
+// Each is below 256. It does nothing.
+fn are_bytes(bytes: &[u8])
+    ensures { (k : ℕ) → slice_index bytes.now k < 256 }
+{
+    let _ = bytes;
+}
+
+// The bytes of values, from those of both columns.
+fn value_bytes(
+    alloc: Global,
+    connective: Connective,
+    a: &[u8],
+    a_valid: &[u8],
+    b: &[u8],
+    b_valid: &[u8],
+) -> Result<Vec<u8>, NoMemory>
+    requires a_valid { length a_valid.now ≡ length a.now }
+    requires b { length b.now ≡ length a.now }
+    requires b_valid { length b_valid.now ≡ length a.now }
+    ensures { IfOk result (λ bytes. truths.AreMade (truths.value_eight connective) a.now a_valid.now b.now b_valid.now bytes.items (length a.now)) }
+{
+    let mut bytes = vec![in alloc; 0; a.len()]?;
+    for i in 0..a.len() {
+        bytes[i] = value_eight(connective, a[i], a_valid[i], b[i], b_valid[i]);
+    }
+    Ok(bytes)
+}
+
+// The bytes of validity.
+fn valid_bytes(
+    alloc: Global,
+    connective: Connective,
+    a: &[u8],
+    a_valid: &[u8],
+    b: &[u8],
+    b_valid: &[u8],
+) -> Result<Vec<u8>, NoMemory>
+    requires a_valid { length a_valid.now ≡ length a.now }
+    requires b { length b.now ≡ length a.now }
+    requires b_valid { length b_valid.now ≡ length a.now }
+    ensures { IfOk result (λ bytes. truths.AreMade (truths.valid_eight connective) a.now a_valid.now b.now b_valid.now bytes.items (length a.now)) }
+{
+    let mut bytes = vec![in alloc; 0; a.len()]?;
+    for i in 0..a.len() {
+        bytes[i] = valid_eight(connective, a[i], a_valid[i], b[i], b_valid[i]);
+    }
+    Ok(bytes)
+}
+
+// The values of eight places, from a byte of values and a byte of validity of each column.
+fn value_eight(connective: Connective, a: u8, a_valid: u8, b: u8, b_valid: u8) -> u8
+    ensures { result ≡ truths.value_eight connective a a_valid b b_valid }
 {
     match connective {
-        Connective::And => (a & b, a_valid & b_valid | a_valid & !a | b_valid & !b),
-        Connective::Or => (
-            a & a_valid | b & b_valid,
-            a_valid & b_valid | a_valid & a | b_valid & b,
-        ),
-        Connective::Xor => (a ^ b, a_valid & b_valid),
-        Connective::Not => (!a, a_valid),
+        Connective::And => a & b,
+        Connective::Or => a & a_valid | b & b_valid,
+        Connective::Xor => a ^ b,
+        Connective::Not => !a,
+    }
+}
+
+// Which of them are there.
+fn valid_eight(connective: Connective, a: u8, a_valid: u8, b: u8, b_valid: u8) -> u8
+    ensures { result ≡ truths.valid_eight connective a a_valid b b_valid }
+{
+    match connective {
+        Connective::And => a_valid & b_valid | a_valid & !a | b_valid & !b,
+        Connective::Or => a_valid & b_valid | a_valid & a | b_valid & b,
+        Connective::Xor => a_valid & b_valid,
+        Connective::Not => a_valid,
     }
 }

@@ -1,5 +1,5 @@
 //! Exact sums.
-ghost use Rattle.std.specs.Prelude.{◌≡◌, ◌<◌, ◌^◌, ℤ, pos, neg_ℤ, ◌+ℤ◌, ◌*ℤ◌, ◌≤ℤ◌, ◌<ℤ◌, length, FitsSigned, IfSome};
+ghost use Rattle.std.specs.Prelude.{◌≡◌, ◌<◌, ◌≤◌, ◌^◌, ℤ, pos, neg_ℤ, ◌+ℤ◌, ◌*ℤ◌, ◌≤ℤ◌, ◌<ℤ◌, length, FitsSigned, IfSome};
 ghost use Rattle.std.specs.Int.{w128};
 ghost use Rattle.plan_denote.specs.Tally.{total_of};
 ghost use Rattle.kernels.specs.Numbers as numbers;
@@ -26,10 +26,27 @@ pub fn sum<T: Native>(a: View<'_, T>) -> WideSum
     ensures below { result.remainder <ℤ pos (10 ^ 19) }
 {
     let values = a.values();
+    if T::SIZE <= 8 {
+        return split(narrow_total(values));
+    }
     match total(values) {
         Some(total) => split(total),
         None => split_total(values),
     }
+}
+
+// The sum of numbers of at most 64 bits: 128 bits hold it.
+fn narrow_total<T: Native>(values: &[T]) -> i128
+    requires narrow { T.SIZE ≤ 8 }
+    requires few { length values.now < 2 ^ 31 }
+    ensures number { result ≡ totals.total T.number values.now }
+    ensures fits { FitsSigned w128 result }
+{
+    let mut total: i128 = 0;
+    for i in 0..values.len() {
+        total += values[i].wide();
+    }
+    total
 }
 
 // The sum, unless 128 bits don't hold it on the way.

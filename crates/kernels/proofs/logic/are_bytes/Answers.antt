@@ -1,0 +1,4 @@
+use Rattle.kernels.proofs.logic.are_bytes.Goals as goal
+
+pub returns : goal.returns
+returns c = λ k. (c.type_inv.bytes k).fits

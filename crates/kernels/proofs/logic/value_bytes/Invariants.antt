@@ -1,0 +1,5 @@
+use Rattle.kernels.specs.Truths.{AreMade, value_eight}
+use Rattle.kernels.proofs.logic.value_bytes.Given as goal
+
+abbrev pub invariant-loop-i : goal.invariant-loop-i
+invariant-loop-i l = AreMade (value_eight l.connective) l.a l.a_valid l.b l.b_valid l.bytes.items l.i
