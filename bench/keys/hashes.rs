@@ -101,7 +101,7 @@ fn main() {
     let some_part = numbers(251, PART);
     let words_part = texts(PART);
     for _ in 0..ROUNDS {
-        timed("copy", TIMES, |_| black_box(&body).clone().len());
+        timed("copy", TIMES, |_| black_box(black_box(&body).clone()).len());
         timed("numbers", 1, |seed| hash_numbers(black_box(&wide), seed).len());
         timed("numbers of a batch", TIMES, |seed| hash_numbers(black_box(&wide_part), seed).len());
         timed("numbers with nulls", 1, |seed| hash_numbers(black_box(&some), seed).len());
@@ -109,7 +109,7 @@ fn main() {
         timed("texts", 1, |seed| hash_texts(black_box(&words), seed).len());
         timed("texts of a batch", TIMES, |seed| hash_texts(black_box(&words_part), seed).len());
         timed("whole keys", 1, |_| black_box(&some).valid.clone().iter().map(|b| b.count_ones() as usize).sum());
-        timed("number keys", 1, |_| black_box(&wide).values.clone().len());
+        timed("number keys", 1, |_| black_box(black_box(&wide).values.clone()).len());
         timed("matches of numbers", 1, |_| {
             let (a, b) = (black_box(&wide), black_box(&some));
             (0..ROWS).filter(|i| is_valid(&a.valid, *i) && is_valid(&b.valid, *i) && a.values[*i] == b.values[*i]).count()
