@@ -151,4 +151,5 @@ def main():
         measure(works)
 
 
-main()
+if __name__ == "__main__":
+    main()

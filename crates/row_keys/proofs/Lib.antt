@@ -1,4 +1,4 @@
-mod HashLaws
 mod KeyLaws
+mod MatchLaws
 mod SameLaws
 mod WrittenLaws

@@ -59,7 +59,7 @@ same_value (values.Bytes x) (values.Int y) e = absurd (cc)
 same_value (values.Bytes x) (values.Dec y) e = absurd (cc)
 same_value (values.Bytes x) (values.Bytes y) e = ap (λ v. values.Bytes v) (slice_cmp-IsAntisymmetric nat_cmp-IsAntisymmetric x y (equal_is (slice_cmp nat_cmp x y) e))
 
-both_true : (a b : Bool) → a && b ≡ true → (a ≡ true) × (b ≡ true)
+pub both_true : (a b : Bool) → a && b ≡ true → (a ≡ true) × (b ≡ true)
 both_true true b e = (refl, e)
 both_true false b e = absurd (cc)
 
@@ -76,9 +76,12 @@ turned Less e = absurd (cc)
 turned Equal e = refl
 turned Greater e = absurd (cc)
 
+pub value_itself : (a : Value) → is_same a a ≡ true
+value_itself a = turned (value_cmp a a) (value_cmp_total.antisymm a a)
+
 same_itself : (x : List Value) → is_same_row x x ≡ true
 same_itself [] = refl
-same_itself (a ∷ x) = ap (λ t. t && is_same_row x x) (turned (value_cmp a a) (value_cmp_total.antisymm a a)) ∙ same_itself x
+same_itself (a ∷ x) = ap (λ t. t && is_same_row x x) (value_itself a) ∙ same_itself x
 
 pub key_same : (x y : List Value) → x ≡ y → is_same_row x y ≡ true
 key_same x y e = ap (is_same_row x) (sym e) ∙ same_itself x

@@ -1,3 +1,2 @@
 pub mod KeyBytes
-pub mod KeyHash
 pub mod Keys

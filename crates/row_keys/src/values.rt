@@ -1,5 +1,5 @@
 // Values as they stand in columns, compared without a copy.
-ghost use Rattle.std.specs.Prelude.{◌≡◌, ◌<◌, length, slice_index_or, option_copied};
+ghost use Rattle.std.specs.Prelude.{◌≡◌, ◌<◌, Some, length, slice_index_or, option_copied};
 ghost use Rattle.plan_denote.specs.Computed.{is_null};
 ghost use Rattle.plan_denote.specs.Order.{value_cmp};
 ghost use Rattle.sub_types.specs.Nullable.{bool_value, int_value, dec_value, bytes_value};
@@ -7,6 +7,7 @@ ghost use Rattle.sub_types.specs.declared.value.Value.TheVariants.{Null};
 ghost use Rattle.sub_types.specs.declared.kind.Ty.{Ty};
 ghost use Rattle.batch.specs.BatchRows.{column_of, types_of};
 ghost use Rattle.batch.specs.ColumnValues.{values_of, storage_of};
+ghost use Rattle.row_keys.specs.Keys.{kind_at};
 
 use batch::{Batch, Column, ColumnData};
 use std::cmp::Ordering;
@@ -16,6 +17,7 @@ pub(crate) fn column_at(batch: &Batch, column: u32) -> &Column
     requires { column < length batch.now.columns.items }
     ensures values { values_of result.now.values ≡ column_of column batch.now }
     ensures ty { (ty : Ty) → result.now.ty ≡ slice_index_or (types_of batch.now) column ty }
+    ensures kind { kind_at (types_of batch.now) column ≡ Some result.now.ty.kind }
     ensures rows { length (values_of result.now.values) ≡ batch.now.rows }
 {
     &batch.columns[column as usize]
