@@ -1,5 +1,5 @@
 -- Sums and facts over lists that were mapped, reversed or joined.
-use Rattle.std.proofs.Common.{◌≡◌, ℕ, suc, ◌+◌, ◌<◌, ◌≤◌, cond, eqb, List, [], ◌∷◌, ◌++◌, length, map, reverse, sum_by, All, Any, Contains, arith, refl, sym, ap, subst, ◌∙◌, ◌⊎◌, ⊎_elim, get_or}
+use Rattle.std.proofs.Common.{◌≡◌, ℕ, ◌<◌, cond, eqb, List, [], ◌∷◌, length, map, reverse, sum_by, All, Any, Contains, arith, refl, sym, ap, subst, ◌∙◌, ◌⊎◌, ⊎_elim, get_or}
 use Rattle.std.specs.List.{flat_map}
 use Rattle.std.proofs.lemmas.List.{get_or-map, length-map}
 use Rattle.std.proofs.lemmas.List.Sums.{sum_by-cons}

@@ -1,5 +1,5 @@
 -- What a round comes to, once its rest was worked and its outcomes were put in order.
-use Rattle.std.proofs.Common.{◌≡◌, ℕ, ◌+◌, ◌-◌, ◌<◌, ◌≤◌, cond, eqb, List, [], ◌∷◌, ◌++◌, length, map, sum_by, All, Contains, arith, refl, sym, ap, subst, ◌∙◌, ◌⊎◌, ⊎_elim}
+use Rattle.std.proofs.Common.{◌≡◌, ℕ, ◌+◌, ◌-◌, ◌<◌, cond, eqb, List, [], ◌∷◌, length, map, sum_by, All, Contains, arith, refl, sym, ap, subst, ◌∙◌, ◌⊎◌, ⊎_elim}
 use Rattle.std.specs.Coded.{Coded}
 use Rattle.std.specs.List.{flat_map, range_with_len}
 use Rattle.std.specs.List.Sorted.{IsPermutation, IsNonDecreasingBy}

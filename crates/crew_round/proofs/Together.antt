@@ -1,5 +1,5 @@
 -- What workers that met the end have together.
-use Rattle.std.proofs.Common.{◌≡◌, ℕ, ◌+◌, ◌<◌, ◌≤◌, true, List, length, map, reverse, sum_by, All, Any, Contains, Option, Some, None, IfSome, IsSome, arith, refl, sym, ap, subst, ◌∙◌, ◌⊎◌, inl, inr, ⊎_elim, get_or}
+use Rattle.std.proofs.Common.{◌≡◌, ℕ, ◌<◌, ◌≤◌, true, List, length, map, reverse, sum_by, All, Contains, Option, Some, None, IfSome, IsSome, arith, sym, ap, subst, ◌∙◌, ◌⊎◌, inl, inr, ⊎_elim, get_or}
 use Rattle.std.specs.List.{flat_map}
 use Rattle.std.proofs.lemmas.Bool.{false≢true}
 use Rattle.std.proofs.lemmas.List.{length-map, length-reverse}

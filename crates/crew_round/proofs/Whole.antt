@@ -1,5 +1,5 @@
 -- Labours that went to workers and came back in their places.
-use Rattle.std.proofs.Common.{◌≡◌, ℕ, ◌<◌, List, [], ◌∷◌, ◌++◌, length, map, reverse, All, arith, refl, sym, ap, ◌∙◌, get_or}
+use Rattle.std.proofs.Common.{◌≡◌, List, [], ◌∷◌, ◌++◌, length, map, reverse, All, arith, refl, sym, ap, ◌∙◌, get_or}
 use Rattle.std.proofs.lemmas.List.{reverse-append, map_push, length-map, length-reverse, get_or-map}
 
 pub back_length : {W X : Type 0} (g : W → X) (ws : List W) (xs : List X) → reverse (map g ws) ≡ xs → length ws ≡ length xs

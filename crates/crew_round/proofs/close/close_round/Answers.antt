@@ -1,4 +1,4 @@
-use Rattle.std.proofs.Common.{◌≡◌, ℕ, List, map, sum_by, All, arith, sym, ◌∙◌, subst}
+use Rattle.std.proofs.Common.{ℕ, map, All, arith, sym, ◌∙◌, subst}
 use Rattle.std.proofs.lemmas.List.{length-map}
 use Rattle.run_core.specs.Counts.{times}
 use Rattle.run_core.specs.Receipts.{lists_of}

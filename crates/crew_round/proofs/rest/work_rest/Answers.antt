@@ -1,4 +1,4 @@
-use Rattle.std.proofs.Common.{ℕ, List, [], refl, subst, sym, ◌∙◌}
+use Rattle.std.proofs.Common.{ℕ, List, [], subst, sym, ◌∙◌}
 use Rattle.crew.specs.Labours.{labour_view}
 use Rattle.crew_round.specs.Rest.{rest_point, Advanced}
 use Rattle.crew_round.proofs.Leftover.{advanced_none, worked_off}

@@ -1,7 +1,7 @@
 use Rattle.std.proofs.Common.{◌≡◌, ℕ, ◌≤◌, true, List, map, vec_len, arith, rules, sym, ap, ◌∙◌, subst}
 use Rattle.std.specs.Vec.{vec_capacity}
 use Rattle.std.specs.List.{range_with_len}
-use Rattle.run_core.specs.Counts.{times, once_below}
+use Rattle.run_core.specs.Counts.{once_below}
 use Rattle.run_core.specs.Receipts.{Lists, lists_of, IsBalanced}
 use Rattle.scan_claims.specs.Claims.{SeatView}
 use Rattle.hand_off.specs.Hand.{PassView}
