@@ -1,0 +1,3 @@
+pub mod Labours
+pub mod Workers
+pub mod Room

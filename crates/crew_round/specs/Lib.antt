@@ -1,0 +1,3 @@
+pub mod Rest
+pub mod Ended
+pub mod Fair
