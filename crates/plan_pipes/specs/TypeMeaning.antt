@@ -9,7 +9,7 @@ use Rattle.plan_typed.specs.declared.rel.SetMeasure.{SetMeasure}
 use Rattle.plan_typed.specs.declared.rel.SetOp.{SetOp}
 use Rattle.plan_typed.specs.declared.rel.TypedMeasure.{TypedMeasure}
 use Rattle.plan_typed.specs.Types.{ty_of}
-use Rattle.func_table.specs.Kinds.{is_equal}
+use Rattle.func_table.specs.Kinds.{is_same}
 use Rattle.well_typed.specs.Columns.{columns_at, join_columns, group_type, number_column}
 use Rattle.well_typed.specs.ExprTyped.{IsTypedOver, HasOne}
 use Rattle.well_typed.specs.WellTyped.{IsConditionOver, MayBe, AreAll, AreBelow, AreInputs, IsMeasureOver, IsSetMeasureOver, set_columns_of}
@@ -61,13 +61,13 @@ pub record IsProbe (table : JoinTyping) (before : Typing) (given : List Ty) : Ty
   pub input : before types
   pub join : table types given
 
--- both columns of a key are there, and can be equal
+-- both columns of a key are there, and are of kinds that `equal` takes: of one name, and of one scale where they are decimals
 pub record IsKeyOver (left right : List Ty) (key : ℕ × ℕ) : Type 0 where
   pub first : Ty
   pub second : Ty
   pub in_left : slice_get left key.0 ≡ Some first
   pub in_right : slice_get right key.1 ≡ Some second
-  pub equal : IsTrue (is_equal first.kind second.kind)
+  pub equal : IsTrue (is_same first.kind second.kind)
 
 -- a join over left rows of the types that it was made for
 pub record IsJoin (spec : JoinSpec) (right : Typing) (types given : List Ty) : Type 0 where
