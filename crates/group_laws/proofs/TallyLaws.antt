@@ -52,21 +52,21 @@ is_greater_than = record {
   gap = λ x p q a b. greater_is q x ∙ less_gap q p x (sym (greater_is q p) ∙ b) (sym (greater_is p x) ∙ a);
 }
 
-null_is : (v : Value) → is_null v ≡ true → v ≡ values.Null
+pub null_is : (v : Value) → is_null v ≡ true → v ≡ values.Null
 null_is values.Null e = refl
 null_is (values.Bool x) e = absurd (cc)
 null_is (values.Int x) e = absurd (cc)
 null_is (values.Dec x) e = absurd (cc)
 null_is (values.Bytes x) e = absurd (cc)
 
-better_there : (is_better : Ordering → Bool) (v o : Value) → is_null o ≡ false → better_of is_better v o ≡ cond (is_better (value_cmp o v)) o v
+pub better_there : (is_better : Ordering → Bool) (v o : Value) → is_null o ≡ false → better_of is_better v o ≡ cond (is_better (value_cmp o v)) o v
 better_there is_better v values.Null e = absurd (cc)
 better_there is_better v (values.Bool x) e = refl
 better_there is_better v (values.Int x) e = refl
 better_there is_better v (values.Dec x) e = refl
 better_there is_better v (values.Bytes x) e = refl
 
-between_there : (is_better : Ordering → Bool) (v o : Value) → is_null v ≡ false → best_between is_better v o ≡ better_of is_better v o
+pub between_there : (is_better : Ordering → Bool) (v o : Value) → is_null v ≡ false → best_between is_better v o ≡ better_of is_better v o
 between_there is_better values.Null o e = absurd (cc)
 between_there is_better (values.Bool x) o e = refl
 between_there is_better (values.Int x) o e = refl

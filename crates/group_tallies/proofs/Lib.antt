@@ -1,0 +1,3 @@
+pub mod TotalLaws
+pub mod KeptLaws
+pub mod RunningLaws
