@@ -1,0 +1,3 @@
+pub mod ArrangedLaws
+pub mod OrderLaws
+pub mod RowLaws
