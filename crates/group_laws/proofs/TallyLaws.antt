@@ -1,5 +1,5 @@
 -- The tally of values and of the values behind them.
-use Rattle.std.proofs.Common.{◌≡◌, ◌∙◌, ◌+◌, ℤ, pos, ◌+ℤ◌, List, [], ◌∷◌, ◌++◌, Bool, true, false, not, cond, length, refl, sym, ap, arith, length-append}
+use Rattle.std.proofs.Common.{◌≡◌, ◌∙◌, ℕ, ◌+◌, ℤ, pos, ◌+ℤ◌, List, [], ◌∷◌, ◌++◌, Bool, true, false, not, cond, length, refl, sym, ap, arith, length-append}
 use Rattle.std.specs.declared.cmp.Ordering.{Ordering}
 use Rattle.std.specs.declared.cmp.Ordering.TheVariants.{Less, Equal, Greater}
 use Rattle.std.specs.Ordering.{is_lt, is_gt, ordering_reverse}
@@ -9,7 +9,7 @@ use Rattle.sub_types.specs.declared.value.Value.{Value}
 use Rattle.sub_types.specs.declared.value.Value.TheVariants as values
 use Rattle.plan_denote.specs.Computed.{is_null}
 use Rattle.plan_denote.specs.Order.{value_cmp, number_in}
-use Rattle.plan_denote.specs.Tally.{not_null, total_of, better_of, best_of, tally_of}
+use Rattle.plan_denote.specs.Tally.{Tally, not_null, total_of, better_of, best_of, tally_of}
 use Rattle.plan_denote.proofs.OrderLaws.{value_cmp_total}
 use Rattle.group_laws.specs.Merged.{best_between, tallies_merged}
 
@@ -156,3 +156,25 @@ tally-append members later =
     ∙ ap (λ n. record { count = length (not_null members) + length (not_null later); total = n; least = best_of is_lt (not_null members ++ not_null later); greatest = best_of is_gt (not_null members ++ not_null later) }) (total-append (not_null members) (not_null later))
     ∙ ap (λ n. record { count = length (not_null members) + length (not_null later); total = total_of (not_null members) +ℤ total_of (not_null later); least = n; greatest = best_of is_gt (not_null members ++ not_null later) }) (best-append is_lt is_less_than members (not_null later))
     ∙ ap (λ n. record { count = length (not_null members) + length (not_null later); total = total_of (not_null members) +ℤ total_of (not_null later); least = best_between is_lt (best_of is_lt (not_null members)) (best_of is_lt (not_null later)); greatest = n }) (best-append is_gt is_greater_than members (not_null later))
+
+-- whatever is put together first
+between_assoc : (is_better : Ordering → Bool) → IsBetter is_better → (x p q : Value) (b : Bool) → is_null x ≡ b → best_between is_better (best_between is_better x p) q ≡ best_between is_better x (best_between is_better p q)
+between_assoc is_better order x p q true n =
+    ap (λ v. best_between is_better (best_between is_better v p) q) (null_is x n) ∙ sym (ap (λ v. best_between is_better v (best_between is_better p q)) (null_is x n))
+between_assoc is_better order x p q false n =
+    ap (λ v. best_between is_better v q) (between_there is_better x p n)
+    ∙ sym (one_more is_better order x p q (is_null p) (is_null q) n refl refl)
+    ∙ sym (between_there is_better x (best_between is_better p q) n)
+
+three_numbers : (a b c : ℕ) → (a + b) + c ≡ a + (b + c)
+three_numbers a b c = omega arith
+
+three_totals : (a b c : ℤ) → (a +ℤ b) +ℤ c ≡ a +ℤ (b +ℤ c)
+three_totals a b c = omega (arith, ints)
+
+pub merged_assoc : (a b c : Tally) → tallies_merged (tallies_merged a b) c ≡ tallies_merged a (tallies_merged b c)
+merged_assoc a b c =
+    ap (λ n. record { count = n; total = (a.total +ℤ b.total) +ℤ c.total; least = best_between is_lt (best_between is_lt a.least b.least) c.least; greatest = best_between is_gt (best_between is_gt a.greatest b.greatest) c.greatest }) (three_numbers a.count b.count c.count)
+    ∙ ap (λ n. record { count = a.count + (b.count + c.count); total = n; least = best_between is_lt (best_between is_lt a.least b.least) c.least; greatest = best_between is_gt (best_between is_gt a.greatest b.greatest) c.greatest }) (three_totals a.total b.total c.total)
+    ∙ ap (λ v. record { count = a.count + (b.count + c.count); total = a.total +ℤ (b.total +ℤ c.total); least = v; greatest = best_between is_gt (best_between is_gt a.greatest b.greatest) c.greatest }) (between_assoc is_lt is_less_than a.least b.least c.least (is_null a.least) refl)
+    ∙ ap (λ v. record { count = a.count + (b.count + c.count); total = a.total +ℤ (b.total +ℤ c.total); least = best_between is_lt a.least (best_between is_lt b.least c.least); greatest = v }) (between_assoc is_gt is_greater_than a.greatest b.greatest c.greatest (is_null a.greatest) refl)

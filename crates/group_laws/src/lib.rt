@@ -7,7 +7,7 @@ ghost use Rattle.std.specs.Prelude.{◌≡◌, ◌++◌, [], ℕ, List, Bool, ma
 ghost use Rattle.sub_types.specs.Stream.{Stream, rows_alone, followed_by, glue};
 ghost use Rattle.sub_types.specs.declared.value.Value.{Value};
 ghost use Rattle.plan_denote.specs.Rows.{Row, Formula};
-ghost use Rattle.plan_denote.specs.Tally.{not_null, tally_of};
+ghost use Rattle.plan_denote.specs.Tally.{Tally, not_null, tally_of};
 ghost use Rattle.plan_denote.specs.Aggregate.{Measure, Entry, summary, rows_of_summary, aggregated};
 ghost use Rattle.plan_denote.specs.GroupSets.{AnyMeasure, grouping_sets};
 ghost use Rattle.group_laws.specs.Columns.{entries_of, stream_at};
@@ -21,7 +21,12 @@ pub fn tallies_merge()
     ensures { (values later : List Value) → tally_of (not_null (values ++ later)) ≡ tallies_merged (tally_of (not_null values)) (tally_of (not_null later)) }
 {}
 
-/// So is what is kept for a measure, also of distinct values: those of both, each at its first appearance.
+/// Tallies are merged in any bracketing.
+pub fn tallies_merge_in_any_bracketing()
+    ensures { (a b c : Tally) → tallies_merged (tallies_merged a b) c ≡ tallies_merged a (tallies_merged b c) }
+{}
+
+/// What is kept for a measure is merged as tallies are, also of distinct values: those of both, each at its first appearance.
 pub fn kept_values_merge()
     ensures { (distinct : Bool) (values later : List Value) → known_of distinct (values ++ later) ≡ knowns_merged (known_of distinct values) (known_of distinct later) }
 {}

@@ -72,7 +72,7 @@ none_between is_better (values.Int x) = refl
 none_between is_better (values.Dec x) = refl
 none_between is_better (values.Bytes x) = refl
 
-none_more : (tally : Tally) → tallies_merged tally none ≡ tally
+pub none_more : (tally : Tally) → tallies_merged tally none ≡ tally
 none_more tally =
     ap (λ n. record { count = n; total = tally.total +ℤ pos 0; least = best_between is_lt tally.least values.Null; greatest = best_between is_gt tally.greatest values.Null }) (add-zero tally.count)
     ∙ ap (λ n. record { count = tally.count; total = n; least = best_between is_lt tally.least values.Null; greatest = best_between is_gt tally.greatest values.Null }) (no_number tally.total)

@@ -1,3 +1,4 @@
 pub mod TotalLaws
 pub mod KeptLaws
 pub mod RunningLaws
+pub mod GroupLaws

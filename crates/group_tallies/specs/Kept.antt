@@ -1,5 +1,5 @@
 -- What is kept of tallies: what a measure's function needs.
-use Rattle.std.specs.Prelude.{ℕ, ℤ, pos, List, [], ◌∷◌, map, slice_index_or, slice_set}
+use Rattle.std.specs.Prelude.{ℕ, ◌<◌, ℤ, pos, List, [], ◌∷◌, map, length, ◌==◌, if◌then◌else◌, slice_index_or, slice_set}
 use Rattle.sub_types.specs.declared.value.Value.{Value}
 use Rattle.sub_types.specs.declared.value.Value.TheVariants as values
 use Rattle.plan_typed.specs.declared.expr.Func.{Func}
@@ -77,3 +77,18 @@ with_tally tallies group later = slice_set tallies group (tallies_merged (tally_
 -- what is kept of one value
 abbrev pub kept_of : Keeping → Value → Tally
 kept_of keeping value = kept keeping (tally_of (not_null (value ∷ [])))
+
+-- values go to their groups one after the other, each with its group's number
+abbrev pub with_values : Keeping → List Tally → List (ℕ × Value) → List Tally
+with_values keeping tallies [] = tallies
+with_values keeping tallies (one ∷ values) = with_values keeping (with_tally tallies one.0 (kept_of keeping one.1)) values
+
+-- the values of a group
+abbrev pub values_of : ℕ → List (ℕ × Value) → List Value
+values_of group [] = []
+values_of group (one ∷ values) = if one.0 == group then one.1 ∷ values_of group values else values_of group values
+
+-- each value's group is there
+abbrev pub AreThere : List Tally → List (ℕ × Value) → Type 0
+AreThere tallies [] = Unit {0}
+AreThere tallies (one ∷ values) = (one.0 < length tallies) × AreThere tallies values
