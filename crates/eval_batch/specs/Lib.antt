@@ -1,3 +1,0 @@
-pub mod Evaluated
-pub mod Narrowed
-pub mod Early
