@@ -1,6 +1,6 @@
 // Kernels on columns of truth values.
 use col_fixed::{BoolBuilder, BoolCol};
-use kernels::{and3, not3, or3, select, xor3};
+use kernels::{Rows, and3, not3, or3, select, xor3};
 use std::alloc::Global;
 
 // true, false and null in turn.
@@ -106,6 +106,30 @@ fn are_places(a: &BoolCol, rows: &[u64]) -> bool {
     rows.len() == count
 }
 
+// Whether these are the first `n` rows of the selection, and whether a list is read.
+fn are_rows(rows: &Rows<'_>, on: &[u64], n: usize, listed: bool) -> bool {
+    let mut same = rows.len() == n.min(on.len()) && rows.list().is_some() == listed;
+    for i in 0..rows.len().min(on.len()) {
+        same &= rows.row_at(i) == on[i];
+    }
+    same
+}
+
+// Whether the rows of a selection are lent right, in a batch of `n`.
+fn lends(alloc: Global, n: usize, a: &BoolCol) -> bool {
+    let Ok(on) = select(alloc, a) else {
+        return false;
+    };
+    let listed = Rows::listed(&on.rows);
+    let half = listed.len() / 2;
+    let all = Rows::all(n);
+    are_rows(&listed, &on.rows, n, true)
+        && are_rows(&listed.first(half), &on.rows, half, true)
+        && all.len() == n
+        && all.list().is_none()
+        && all.first(all.len() / 2).len() == n / 2
+}
+
 fn selects(alloc: Global, n: usize, nulls: bool) -> bool {
     let a = column(alloc, n, nulls, 2);
     match select(alloc, &a) {
@@ -120,5 +144,6 @@ fn logic_and_true_places_of_each_length(rt: HostRuntime) {
     for n in 0..131 {
         assert!(rt; connects(alloc, n, false) && connects(alloc, n, true));
         assert!(rt; selects(alloc, n, false) && selects(alloc, n, true));
+        assert!(rt; lends(alloc, n, &column(alloc, n, true, 2)));
     }
 }

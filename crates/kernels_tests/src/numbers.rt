@@ -1,7 +1,8 @@
 // Kernels on columns of numbers.
 use col_fixed::{BoolCol, Fixed, FixedBuilder, Native, View};
 use kernels::{
-    ArithOp, CompareOp, Stop, WideSum, arith, arith_constant, compare, compare_constant, sum,
+    ArithOp, CompareOp, Stop, WideSum, arith, arith_constant, arith_from, arith_with, compare,
+    compare_constant, compare_from, compare_with, sum,
 };
 use plan_typed::Overflow;
 use std::alloc::Global;
@@ -116,6 +117,30 @@ fn compares_constant<T: Native>(
     }
 }
 
+// Comparisons with a constant or null, on either side.
+fn compares_either<T: Native>(
+    alloc: Global,
+    op: CompareOp,
+    a: &View<'_, T>,
+    constant: Option<T>,
+) -> bool {
+    match (
+        compare_with(alloc, op, part_of(a, 0, a.len()), constant),
+        compare_from(alloc, op, constant, part_of(a, 0, a.len())),
+    ) {
+        (Ok(right), Ok(left)) => {
+            let mut same = right.len() == a.len() && left.len() == a.len();
+            for i in 0..a.len().min(right.len()).min(left.len()) {
+                let x = a.value_at(i);
+                same &= right.value_at(i) == expected(op, x, constant)
+                    && left.value_at(i) == expected(op, constant, x);
+            }
+            same
+        }
+        _ => false,
+    }
+}
+
 // The first length at which a comparison of parts at these offsets is wrong.
 fn wrong_length<T: Native>(alloc: Global, nulls: bool, from: usize, other: usize) -> Option<usize> {
     let a = column::<T>(alloc, 150, nulls, from);
@@ -126,6 +151,8 @@ fn wrong_length<T: Native>(alloc: Global, nulls: bool, from: usize, other: usize
         for op in COMPARISONS {
             if !compares(alloc, op, &left, &right)
                 || !compares_constant(alloc, op, &left, T::wrapped(2))
+                || !compares_either(alloc, op, &left, Some(T::wrapped(2)))
+                || !compares_either(alloc, op, &left, None)
             {
                 return Some(len);
             }
@@ -314,6 +341,36 @@ fn computes_constant<T: Native>(
     }
 }
 
+// The same of a column and a constant or null, on either side.
+fn computes_either<T: Native>(
+    alloc: Global,
+    op: ArithOp,
+    mode: Overflow,
+    bits: u32,
+    a: &View<'_, T>,
+    constant: Option<T>,
+) -> bool {
+    let mut constants = FixedBuilder::new(alloc);
+    for _ in 0..a.len() {
+        let _ = constants.push(constant);
+    }
+    let constants = constants.finish();
+    let half = 1i128.wrapping_shl(bits.wrapping_sub(1));
+    let least = T::wrapped(half.wrapping_neg());
+    let greatest = T::wrapped(half.wrapping_sub(1));
+    let part = part_of(a, 0, a.len());
+    let right = arith_with(alloc, op, mode, least, greatest, part, constant);
+    let part = part_of(a, 0, a.len());
+    let left = arith_from(alloc, op, mode, least, greatest, constant, part);
+    match (right, left) {
+        (Ok((right, right_stop)), Ok((left, left_stop))) => {
+            is_result(op, mode, bits, a, &constants.view(), &right, right_stop)
+                && is_result(op, mode, bits, &constants.view(), a, &left, left_stop)
+        }
+        _ => false,
+    }
+}
+
 fn computes_all<T: Native>(alloc: Global, bits: u32, nulls: bool) -> bool {
     let a = column::<T>(alloc, 150, nulls, 2);
     let b = column::<T>(alloc, 150, nulls, 4);
@@ -330,6 +387,8 @@ fn computes_all<T: Native>(alloc: Global, bits: u32, nulls: bool) -> bool {
             ] {
                 if !computes(alloc, op, mode, bits, &left, &right)
                     || !computes_constant(alloc, op, mode, bits, &left, T::wrapped(3))
+                    || !computes_either(alloc, op, mode, bits, &left, Some(T::wrapped(3)))
+                    || !computes_either(alloc, op, mode, bits, &left, None)
                 {
                     return false;
                 }
