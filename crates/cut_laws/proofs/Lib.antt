@@ -1,0 +1,5 @@
+pub mod LevelLaws
+pub mod StreamLaws
+pub mod SortLaw
+pub mod ConditionLaws
+pub mod TypeLaws

@@ -1,0 +1,69 @@
+-- What is proved of the pipelines of a plan.
+use Rattle.std.specs.Prelude.{◌≡◌, ◌<◌, ℕ, List, [], ◌∷◌, ◌++◌, map, length}
+use Rattle.std.specs.List.{AllByRecursion, flat_map}
+use Rattle.sub_types.specs.declared.kind.Ty.{Ty}
+use Rattle.plan_typed.specs.declared.rel.Op.{Op, out-Op}
+use Rattle.plan_typed.specs.declared.rel.Rel.{Rel}
+use Rattle.plan_typed.specs.Types.{columns_of}
+use Rattle.well_typed.specs.Columns.{join_columns}
+use Rattle.well_typed.specs.WellTyped.{AreTyped, HasParts, IsConditionOver, direct_in}
+use Rattle.plan_denote.specs.Denote.{Tables, denote, direct}
+use Rattle.plan_denote.specs.Join.{joined}
+use Rattle.rel_specs.specs.declared.join.JoinSpec.{JoinSpec}
+use Rattle.plan_pipes.specs.declared.pipe.Pipe.{Pipe}
+use Rattle.plan_pipes.specs.declared.pipe.Step.TheVariants as steps
+use Rattle.plan_pipes.specs.Run.{stream_at, run}
+use Rattle.plan_pipes.specs.RowMeaning.{rows_over, join_by}
+use Rattle.plan_pipes.specs.TypeMeaning.{IsKeyOver, HaveTypes, AreTypedPipes, types_over}
+use Rattle.cut_flows.specs.declared.flow.Flow.{Flow}
+use Rattle.cut_flows.specs.Flows.{with_step, build_of}
+use Rattle.cut_flows.specs.Given.{flow_in, fed_by, fed_in, IsGrown}
+use Rattle.cut_flows.specs.Tables.{tables_in}
+use Rattle.cut_laws.specs.Reads.{GivesAt, ReadsGive, HasAt, ReadsHave, reads_of, reads_of_op, Inputs}
+
+-- a relation's rows are a flow after its pipelines
+pub record IsCut (rel : Rel) (before now : List Pipe) (given : Flow) : Type 0 where
+  pub grown : IsGrown before now
+  pub rows : (tables inputs : Tables) → ReadsGive tables inputs rel → flow_in (rows_over inputs) now given ≡ denote tables rel
+  pub reads : fed_in now ++ fed_by given.feed ≡ fed_in before ++ reads_of rel
+  pub typed : (columns : ℕ → List Ty) → AreTyped rel → ReadsHave columns rel → AreTypedPipes columns before → AreTypedPipes columns now × flow_in (types_over columns) now given (columns_of rel)
+
+-- the same of what a relation of this number does
+pub record IsOpCut (number : ℕ) (op : Op) (before now : List Pipe) (given : Flow) : Type 0 where
+  pub grown : IsGrown before now
+  pub rows : (tables inputs : Tables) → GivesAt tables inputs number (out-Op op) → Inputs (ReadsGive tables inputs) (out-Op op) → flow_in (rows_over inputs) now given ≡ direct tables op number
+  pub reads : fed_in now ++ fed_by given.feed ≡ fed_in before ++ reads_of_op op number
+  pub typed : (columns : ℕ → List Ty) → HasParts (out-Op op) → HasAt columns number (out-Op op) → Inputs AreTyped (out-Op op) → Inputs (ReadsHave columns) (out-Op op) → AreTypedPipes columns before
+      → AreTypedPipes columns now × flow_in (types_over columns) now given (direct_in (out-Op op))
+
+-- the pipelines of a join's right input build the table of this index
+pub record IsBuilt (right : Rel) (join : JoinSpec) (before now : List Pipe) (index : ℕ) : Type 0 where
+  pub middle : List Pipe
+  pub rights : Flow
+  pub cut : IsCut right before middle rights
+  pub grown : now ≡ middle ++ build_of rights join ∷ []
+  pub at : index ≡ tables_in middle
+
+-- the left input's flow probes the table of this index
+pub record IsProbed (left : Rel) (index : ℕ) (before now : List Pipe) (given : Flow) : Type 0 where
+  pub lefts : Flow
+  pub cut : IsCut left before now lefts
+  pub is : given ≡ with_step lefts (steps.Probe index)
+
+-- of a join before its post-join filter
+pub record IsJoinCut (left right : Rel) (join : JoinSpec) (before now : List Pipe) (given : Flow) : Type 0 where
+  pub grown : IsGrown before now
+  pub rows : (tables inputs : Tables) → ReadsGive tables inputs left → ReadsGive tables inputs right → flow_in (rows_over inputs) now given ≡ joined join.kind (join_by join) (denote tables left) (denote tables right)
+  pub reads : fed_in now ++ fed_by given.feed ≡ fed_in before ++ (reads_of right ++ reads_of left)
+  pub typed : (columns : ℕ → List Ty) → AllByRecursion (IsKeyOver join.left.items join.right.items) join.keys.items → AllByRecursion (IsConditionOver (join.left.items ++ join.right.items)) join.rest.items
+      → join.left.items ≡ columns_of left → join.right.items ≡ columns_of right → AreTyped left → AreTyped right → ReadsHave columns left → ReadsHave columns right → AreTypedPipes columns before
+      → AreTypedPipes columns now × flow_in (types_over columns) now given (join_columns join.kind (columns_of left) (columns_of right))
+
+-- of several relations, whose rows the pipelines with these indexes gather
+pub record AreCut (rels : List Rel) (before now : List Pipe) (places : List ℕ) : Type 0 where
+  pub grown : IsGrown before now
+  pub within : AllByRecursion (λ at. at < length now) places
+  pub rows : (tables inputs : Tables) → AllByRecursion (ReadsGive tables inputs) rels → map (stream_at (rows_over inputs) (run (rows_over inputs) now).streams) places ≡ map (denote tables) rels
+  pub reads : fed_in now ≡ fed_in before ++ flat_map reads_of rels
+  pub typed : (columns : ℕ → List Ty) → AllByRecursion AreTyped rels → AllByRecursion (ReadsHave columns) rels → AreTypedPipes columns before
+      → AreTypedPipes columns now × HaveTypes (map (stream_at (types_over columns) (run (types_over columns) now).streams) places) (map columns_of rels)
