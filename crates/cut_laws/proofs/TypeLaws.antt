@@ -16,7 +16,7 @@ use Rattle.rel_specs.specs.declared.key_order.KeyOrder.{KeyOrder}
 use Rattle.plan_pipes.specs.declared.pipe.Breaker.{Breaker}
 use Rattle.plan_pipes.specs.declared.pipe.Pipe.{Pipe}
 use Rattle.plan_pipes.specs.declared.pipe.Step.{Step}
-use Rattle.plan_pipes.specs.Run.{Meaning, stream_at, stepped, run}
+use Rattle.plan_pipes.specs.Run.{Meaning, stream_at, stepped, flow, run}
 use Rattle.plan_pipes.specs.TypeMeaning.{Typing, JoinTyping, gathered, type_steps, types_over, AreTypedPipes}
 use Rattle.plan_pipes.proofs.RunLaws.{stream_stays, last_gathered}
 use Rattle.rel_parts.specs.Parts.{orders_from}
@@ -25,6 +25,14 @@ use Rattle.cut_flows.specs.Given.{flow_in}
 use Rattle.cut_flows.specs.Flows.{flow_from, feed_of, with_step, pipe_of}
 use Rattle.cut_flows.proofs.FlowLaws.{flow_step, flow_next}
 use Rattle.cut_laws.proofs.LevelLaws.{held_here}
+
+-- what a pipeline gathered, whatever runs behind it
+pub stream_of {ℓ} : {D T : Type ℓ} (m : Meaning D T) (before more : List Pipe) (pipe : Pipe)
+    → stream_at m (run m (before ++ pipe ∷ more)).streams (length before) ≡ m.gather pipe.breaker (flow m (run m before) pipe.feed pipe.steps)
+stream_of m before more pipe =
+    let within : length before < length (before ++ pipe ∷ []) = omega (arith, length-append before (pipe ∷ [])) in
+    ap (λ (all : List Pipe). stream_at m (run m all).streams (length before)) (sym (append_assoc before (pipe ∷ []) more))
+    ∙ stream_stays m (before ++ pipe ∷ []) more (length before) within ∙ last_gathered m before pipe
 
 module _ (columns : ℕ → List Ty) where
   abbrev m : Meaning Typing JoinTyping
@@ -50,6 +58,14 @@ module _ (columns : ℕ → List Ty) where
             let same : at ≡ length pipes = omega (arith, there, behind, length-append pipes (pipe ∷ [])) in
             (types, subst (λ (typing : Typing). typing types) (sym (ap (λ k. stream_at m (run m (pipes ++ pipe ∷ [])).streams k) same ∙ last_gathered m pipes pipe)) last)
       ]
+
+  -- each of well-typed pipelines, over what the earlier ones gathered and built
+  pub each_typed : (before more : List Pipe) (pipe : Pipe) → AreTypedPipes columns (before ++ pipe ∷ more)
+      → (types : List Ty) × gathered pipe.breaker (flow m (run m before) pipe.feed pipe.steps) types
+  each_typed before more pipe typed =
+      let there : length before < length (before ++ pipe ∷ more) = omega (arith, length-append before (pipe ∷ more)) in
+      let found = typed (length before) there in
+      (found.0, subst (λ (typing : Typing). typing found.0) (stream_of m before more pipe) found.1)
 
 -- as many columns are emitted as there are places
 counted_at : (types : List Ty) (places : List ℕ) → AreBelow (length types) places → length (columns_at types places) ≡ length places

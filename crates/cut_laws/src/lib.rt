@@ -1,9 +1,10 @@
 //! Laws of relations that are cut into pipelines: a sort by expressions is one by columns, a join is one by its keys and the rest of
-//! its condition over rows that were gathered before, and these parts of a well-typed condition are well typed. `specs/Reads.antt`
-//! has the read relations of a relation in the order in which they run, and what they read.
+//! its condition over rows that were gathered before, these parts of a well-typed condition are well typed, and what each pipeline
+//! gathers stands on what the earlier ones gave. `specs/Reads.antt` has the read relations of a relation in the order in which they
+//! run, and what they read.
 #![tactic(auto)]
 
-ghost use Rattle.std.specs.Prelude.{◌≡◌, ◌++◌, ℕ, List, Option, map, length};
+ghost use Rattle.std.specs.Prelude.{◌≡◌, ◌++◌, ◌∷◌, ℕ, List, Option, map, length};
 ghost use Rattle.std.specs.List.{AllByRecursion, range_with_len};
 ghost use Rattle.sub_types.specs.declared.kind.Ty.{Ty};
 ghost use Rattle.sub_types.specs.Stream.{Stream, rows_alone};
@@ -19,7 +20,10 @@ ghost use Rattle.plan_denote.specs.Project.{projected, emitted};
 ghost use Rattle.plan_denote.specs.Rows.{Row, from_all};
 ghost use Rattle.plan_denote.specs.Sort.{sorted};
 ghost use Rattle.rel_specs.specs.declared.join.JoinSpec.{JoinSpec};
+ghost use Rattle.plan_pipes.specs.declared.pipe.Pipe.{Pipe};
 ghost use Rattle.plan_pipes.specs.RowMeaning.{join_by, sorted_by};
+ghost use Rattle.plan_pipes.specs.Run.{Meaning, flow, run, stream_at};
+ghost use Rattle.plan_pipes.specs.TypeMeaning.{AreTypedPipes, gathered, types_over};
 ghost use Rattle.rel_parts.specs.Parts.{IsJoinSpec, IsCrossSpec, orders_from};
 ghost use Rattle.cut_laws.specs.Keys.{HasColumns};
 
@@ -45,4 +49,16 @@ pub fn join_of_gathered()
 pub fn parts_of_conditions()
     ensures keys { (left right : List Ty) (on : Expr) → IsConditionOver (left ++ right) on → AllByRecursion (HasColumns left right) (keys_of (length left) on) }
     ensures rest { (left right : List Ty) (on : Expr) → IsConditionOver (left ++ right) on → AllByRecursion (IsConditionOver (left ++ right)) (rest_of (length left) on) }
+{}
+
+/// What a pipeline gathers, whatever runs behind it, is what its feed gives, through its steps, over what the earlier ones gathered
+/// and built.
+pub fn stream_of_each_pipe<D, T>()
+    ensures { (m : Meaning D T) (before more : List Pipe) (pipe : Pipe) → stream_at m (run m (before ++ pipe ∷ more)).streams (length before) ≡ m.gather pipe.breaker (flow m (run m before) pipe.feed pipe.steps) }
+{}
+
+/// Where pipelines are well typed, what each gathers has types, over what the earlier ones gathered and built. So its feed, its steps
+/// and its breaker have the types that they ask for.
+pub fn each_pipe_is_typed()
+    ensures { (columns : ℕ → List Ty) (before more : List Pipe) (pipe : Pipe) → AreTypedPipes columns (before ++ pipe ∷ more) → (types : List Ty) × gathered pipe.breaker (flow (types_over columns) (run (types_over columns) before) pipe.feed pipe.steps) types }
 {}

@@ -56,7 +56,7 @@ use Rattle.cut_flows.specs.declared.flow.Flow.{Flow}
 use Rattle.cut_flows.specs.Given.{flow_in, last_stream, fed_by, fed_in}
 use Rattle.cut_laws.specs.Keys.{HasColumns}
 use Rattle.cut_laws.specs.Reads.{GivesAt, ReadGives, ReadsGive, HasAt, ReadHas, ReadsHave, reads_of, reads_of_op, Inputs}
-use Rattle.plan_cut.specs.Cut.{IsCut, IsOpCut, IsBuilt, IsProbed, IsJoinCut, AreCut}
+use Rattle.plan_cut.specs.Cut.{IsCut, IsOpCut, IsBuilt, IsProbed, IsJoinCut, AreCut, EndsInGather}
 use Rattle.cut_flows.specs.Flows.{flow_from, feed_of, with_step, pipe_of, build_of, read_flow, filter_flow, post_flow, project_flow, keep_flow, sort_of, sorted_flow}
 use Rattle.cut_flows.specs.Tables.{tables_in}
 use Rattle.cut_flows.proofs.FlowLaws.{flow_step, flow_next, table_built, streams_stay, not_grown, grown_on, grown_last, fed_last}
@@ -548,6 +548,7 @@ next_at rels at rel before middle now all places more place given there is index
 -- the whole plan, by equations
 pub record IsWhole (rel : Rel) (pipes : List Pipe) : Type 0 where
   pub some : 0 < length pipes
+  pub last : EndsInGather pipes
   pub rows : (tables inputs : Tables) → ReadsGive tables inputs rel → last_stream (rows_over inputs) pipes ≡ denote tables rel
   pub reads : fed_in pipes ≡ reads_of rel
   pub typed : (columns : ℕ → List Ty) → AreTyped rel → ReadsHave columns rel → AreTypedPipes columns pipes
@@ -556,4 +557,4 @@ pub record IsWhole (rel : Rel) (pipes : List Pipe) : Type 0 where
 pub whole_plan : (rel : Rel) (start now pipes : List Pipe) (given : Flow) → start ≡ [] → pipes ≡ now ++ pipe_of given breakers.Gather ∷ [] → IsCut rel start now given → IsWhole rel pipes
 whole_plan rel start now pipes given first is cut =
     let own = subst (λ (all : List Pipe). IsCut rel all now given) first cut in
-    subst (IsWhole rel) (sym is) (record { some = some_pipe rel now given own; rows = last_rows_are rel now given own; reads = whole_reads rel now given own; typed = whole_typed rel now given own; columns = last_columns_are rel now given own })
+    subst (IsWhole rel) (sym is) (record { some = some_pipe rel now given own; last = record { before = now; last = pipe_of given breakers.Gather; is = refl; gathers = refl }; rows = last_rows_are rel now given own; reads = whole_reads rel now given own; typed = whole_typed rel now given own; columns = last_columns_are rel now given own })

@@ -10,6 +10,7 @@ use Rattle.well_typed.specs.WellTyped.{AreTyped, HasParts, IsConditionOver, dire
 use Rattle.plan_denote.specs.Denote.{Tables, denote, direct}
 use Rattle.plan_denote.specs.Join.{joined}
 use Rattle.rel_specs.specs.declared.join.JoinSpec.{JoinSpec}
+use Rattle.plan_pipes.specs.declared.pipe.Breaker.TheVariants as breakers
 use Rattle.plan_pipes.specs.declared.pipe.Pipe.{Pipe}
 use Rattle.plan_pipes.specs.declared.pipe.Step.TheVariants as steps
 use Rattle.plan_pipes.specs.Run.{stream_at, run}
@@ -67,3 +68,10 @@ pub record AreCut (rels : List Rel) (before now : List Pipe) (places : List ℕ)
   pub reads : fed_in now ≡ fed_in before ++ flat_map reads_of rels
   pub typed : (columns : ℕ → List Ty) → AllByRecursion AreTyped rels → AllByRecursion (ReadsHave columns) rels → AreTypedPipes columns before
       → AreTypedPipes columns now × HaveTypes (map (stream_at (types_over columns) (run (types_over columns) now).streams) places) (map columns_of rels)
+
+-- the last pipeline gathers its rows as they are
+pub record EndsInGather (pipes : List Pipe) : Type 0 where
+  pub before : List Pipe
+  pub last : Pipe
+  pub is : pipes ≡ before ++ last ∷ []
+  pub gathers : last.breaker ≡ breakers.Gather

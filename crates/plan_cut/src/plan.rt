@@ -27,6 +27,7 @@ use sub_types::NoMemory;
 /// read relation feeds one.
 pub fn cut(alloc: Global, typed: &Typed) -> Result<Vec<Pipe>, NoMemory>
     ensures some { IfOk result (λ pipes. 0 < length pipes.items) }
+    ensures last { IfOk result (λ pipes. spec.EndsInGather pipes.items) }
     ensures rows { IfOk result (λ pipes. (tables inputs : Tables) → ReadsGive tables inputs typed.now.rel → last_stream (rows_over inputs) pipes.items ≡ denote tables typed.now.rel) }
     ensures reads { IfOk result (λ pipes. fed_in pipes.items ≡ reads_of typed.now.rel) }
     ensures typed { IfOk result (λ pipes. (columns : ℕ → List Ty) → AreTyped typed.now.rel → ReadsHave columns typed.now.rel → AreTypedPipes columns pipes.items) }
