@@ -1,12 +1,12 @@
 -- What is arranged: under a function, by orders that agree, and of lists that were arranged one by one.
-use Rattle.std.proofs.Common.{◌≡◌, ◌∙◌, ℕ, List, [], ◌∷◌, ◌++◌, Bool, true, false, cond, refl, sym, ap, map}
+use Rattle.std.proofs.Common.{◌≡◌, ◌∙◌, List, [], ◌∷◌, ◌++◌, Bool, true, false, cond, refl, sym, ap, map}
 use Rattle.std.proofs.lemmas.List.Elements.{filter-append}
 use Rattle.std.specs.Cmp.{IsTotalOrder}
 use Rattle.std.specs.List.{AllByRecursion, flat_map, filter}
 use Rattle.std.specs.List.Sorted.{ties}
 use Rattle.std.specs.Ordering.{is_lt, is_gt, on}
 use Rattle.std.specs.declared.cmp.Ordering.{Ordering}
-use Rattle.plan_denote.specs.Sort.{IsArrangement, placed, arranged}
+use Rattle.plan_denote.specs.Sort.{placed, arranged}
 use Rattle.plan_denote.proofs.SortLaws.{arrangement, is_arranged}
 
 module _ {A B : Type 0} (f : A → B) (cmp : B → B → Ordering) where

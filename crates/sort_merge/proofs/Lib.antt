@@ -1,3 +1,4 @@
 pub mod ArrangedLaws
 pub mod OrderLaws
+pub mod PlaceLaws
 pub mod RowLaws

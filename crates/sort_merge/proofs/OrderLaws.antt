@@ -1,13 +1,13 @@
 -- Rows and places by some columns.
-use Rattle.std.proofs.Common.{◌≡◌, ◌∙◌, ℕ, List, [], ◌∷◌, ◌++◌, Bool, true, false, ◌&&◌, refl, sym, ap, subst, map}
+use Rattle.std.proofs.Common.{◌≡◌, ◌∙◌, List, [], ◌∷◌, ◌++◌, Bool, true, false, ◌&&◌, refl, sym, ap, subst, map}
 use Rattle.std.proofs.lemmas.Cmp.{on_total, then_total, tied_itself}
 use Rattle.std.proofs.lemmas.Simd.{map-map}
 use Rattle.std.specs.Cmp.{IsTotalOrder, bool_cmp_total}
 use Rattle.std.specs.List.{AllByRecursion, flat_map}
-use Rattle.std.specs.Ordering.{bool_cmp, on, then_cmp, ordering_then}
+use Rattle.std.specs.Ordering.{bool_cmp, on, ordering_then}
 use Rattle.std.specs.declared.cmp.Ordering.{Ordering}
 use Rattle.std.specs.declared.cmp.Ordering.TheVariants.{Equal}
-use Rattle.sub_types.specs.Stream.{Stream, rows_alone}
+use Rattle.sub_types.specs.Stream.{rows_alone}
 use Rattle.plan_denote.proofs.OrderLaws.{key_cmp_total}
 use Rattle.plan_denote.proofs.SortLaws.{is_arranged}
 use Rattle.plan_denote.specs.Rows.{Row}

@@ -1,30 +1,25 @@
 -- The rows of a batch by their places, and their keys.
-use Rattle.std.proofs.Common.{◌≡◌, ◌∙◌, ℕ, zero, suc, ◌+◌, ◌<◌, ◌≤◌, List, [], ◌∷◌, ◌++◌, Bool, true, false, ◌&&◌, length, map, get_or, nat_lt, refl, sym, ap, subst, arith}
+use Rattle.std.proofs.Common.{◌≡◌, ◌∙◌, ℕ, zero, suc, ◌+◌, ◌<◌, ◌≤◌, List, [], ◌∷◌, ◌++◌, Bool, true, false, ◌&&◌, map, get_or, refl, sym, ap, subst, arith}
 use Rattle.std.specs.List.{AllByRecursion, All, range_with_len}
 use Rattle.std.specs.Ordering.{bool_cmp}
 use Rattle.std.specs.declared.cmp.Ordering.{Ordering}
-use Rattle.std.proofs.lemmas.Bool.{lt-ltb, ltb-true, ltb-false}
-use Rattle.std.proofs.lemmas.List.{get_or_past}
+use Rattle.std.proofs.lemmas.Bool.{lt-ltb, ltb-true}
 use Rattle.std.proofs.lemmas.List.FromFn.{map-range_with_len_more}
 use Rattle.std.proofs.lemmas.List.Elements.{All-weaker, All-from_recursion}
-use Rattle.sub_types.specs.Rows.{picked, across, transpose}
+use Rattle.sub_types.specs.Rows.{picked}
 use Rattle.sub_types.specs.Stream.{rows_alone}
-use Rattle.sub_types.specs.declared.value.Value.{Value}
 use Rattle.sub_types.specs.declared.value.Value.TheVariants.{Null}
 use Rattle.batch.specs.declared.batch.Batch.{Batch}
 use Rattle.batch.specs.BatchRows.{rows_of, columns_of}
-use Rattle.batch.proofs.RowLaws.{length-transpose, get_or-transpose, get_or-across, columns-all}
-use Rattle.plan_denote.specs.Rows.{Row}
+use Rattle.batch.proofs.RowLaws.{get_or-transpose, get_or-across}
 use Rattle.plan_denote.specs.Sort.{IsArrangement, key_cmp}
 use Rattle.plan_pipes.specs.RowMeaning.{keyed_by, direction_in, sorted_by}
 use Rattle.rel_specs.specs.declared.key_order.KeyOrder.{KeyOrder}
 use Rattle.row_keys.specs.Keys.{sort_key_of, direction_of}
-use Rattle.sort_merge.specs.BatchRow.{has_row, row_at}
+use Rattle.batch_places.specs.BatchRow.{has_row, row_at}
+use Rattle.batch_places.proofs.PlaceLaws.{rows-all, no_row}
 use Rattle.sort_merge.specs.RowOrder.{in_order, row_cmp, place_cmp}
 use Rattle.sort_merge.proofs.OrderLaws.{sorted_is, by_rows, by_tests, rows_at, there_at}
-
-pub length-rows : (batch : Batch) → length (rows_of batch) ≡ batch.rows
-length-rows batch = length-transpose Null batch.rows (columns_of batch)
 
 -- the key of a row is that of the batch at its place
 pub key_at : (keys : List KeyOrder) (batch : Batch) (place : ℕ) → place < batch.rows → (keyed_by keys (row_at batch place)).0 ≡ sort_key_of keys batch place
@@ -39,10 +34,6 @@ pub cmp_at : (keys : List KeyOrder) (one other : Batch) (i j : ℕ) → i < one.
 cmp_at keys one other i j below within =
     ap (λ key. key_cmp (map direction_in keys) key (keyed_by keys (row_at other j)).0) (key_at keys one i below)
     ∙ ap (key_cmp (map direction_in keys) (sort_key_of keys one i)) (key_at keys other j within)
-
--- the rows at all places
-pub rows-all : (batch : Batch) → map (row_at batch) (range_with_len 0 batch.rows) ≡ rows_of batch
-rows-all batch = columns-all (rows_of batch) batch.rows (length-rows batch)
 
 -- the places of all rows hold rows
 there_from : (batch : Batch) (a n : ℕ) → a + n ≤ batch.rows → AllByRecursion (λ i. has_row batch i ≡ true) (range_with_len a n)
@@ -65,10 +56,6 @@ pub rows_picked : (keys : List KeyOrder) (batch : Batch) (places ordered : List 
 rows_picked keys batch places ordered all is =
     rows_at keys (has_row batch) (row_at batch) places ordered (there_all batch places all) is
     ∙ ap (in_order keys) (ap (map (row_at batch)) all ∙ rows-all batch)
-
--- no row is at a place behind them
-pub no_row : (batch : Batch) (place : ℕ) → has_row batch place ≡ false → row_at batch place ≡ []
-no_row batch place none = get_or_past (rows_of batch) place [] (omega (arith, ltb-false place batch.rows none, length-rows batch))
 
 -- two places by the keys there, and by whether there are rows
 pub by_keys : (keys : List KeyOrder) (batch : Batch) (a b : ℕ) (o : Ordering) → has_row batch a ≡ true → has_row batch b ≡ true → o ≡ key_cmp (map direction_of keys) (sort_key_of keys batch a) (sort_key_of keys batch b)

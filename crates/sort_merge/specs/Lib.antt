@@ -1,2 +1,1 @@
-pub mod BatchRow
 pub mod RowOrder

@@ -6,7 +6,7 @@ ghost use Rattle.sub_types.specs.Stream.{rows_alone};
 ghost use Rattle.plan_denote.specs.Sort.{IsArrangement};
 ghost use Rattle.plan_pipes.specs.RowMeaning.{sorted_by};
 ghost use Rattle.batch.specs.BatchRows.{rows_of, types_of};
-ghost use Rattle.sort_merge.specs.BatchRow.{has_row, row_at};
+ghost use Rattle.batch_places.specs.BatchRow.{has_row, row_at};
 ghost use Rattle.sort_merge.specs.RowOrder.{place_cmp};
 
 use batch::Batch;

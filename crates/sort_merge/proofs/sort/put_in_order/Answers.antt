@@ -1,7 +1,7 @@
 use Rattle.std.proofs.Common.{rules, ℕ, Bool, is_lt}
 use Rattle.std.proofs.lemmas.List.Sorted.{ranks_by}
 use Rattle.std.proofs.lemmas.Fn.{always_returns_same}
-use Rattle.sort_merge.specs.BatchRow.{has_row, row_at}
+use Rattle.batch_places.specs.BatchRow.{has_row, row_at}
 use Rattle.sort_merge.specs.RowOrder.{place_cmp}
 use Rattle.sort_merge.proofs.OrderLaws.{place_total}
 use Rattle.sort_merge.proofs.sort.put_in_order.Goals as goal

@@ -3,7 +3,6 @@ use Rattle.std.proofs.lemmas.List.FromFn.{length-range_with_len}
 use Rattle.std.proofs.lemmas.Result.{IfOk-weaker}
 use Rattle.sub_types.specs.Rows.{picked}
 use Rattle.sub_types.specs.Stream.{rows_alone}
-use Rattle.batch.specs.declared.batch.Batch.{Batch}
 use Rattle.batch.specs.BatchRows.{rows_of}
 use Rattle.plan_pipes.specs.RowMeaning.{sorted_by}
 use Rattle.sort_merge.proofs.RowLaws.{places_within, picked_sorted}

@@ -1,0 +1,2 @@
+pub mod BatchRow
+pub mod Places

@@ -1,0 +1,4 @@
+pub mod TimesLaws
+pub mod CountLaws
+pub mod MarkLaws
+pub mod OperationLaws
