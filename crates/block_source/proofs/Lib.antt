@@ -1,0 +1,13 @@
+pub mod Counts
+pub mod PlaceSums
+pub mod ReadLaws
+pub mod BlockReadLaws
+pub mod PlaceLaws
+pub mod Results
+pub mod Rising
+pub mod Numbers
+pub mod Joining
+pub mod Once
+pub mod InPlaces
+pub mod FreshLaws
+pub mod HeadLaws

@@ -1,0 +1,2 @@
+pub mod Glued
+pub mod First
