@@ -4,10 +4,8 @@ use Rattle.std.specs.List.{sum}
 use Rattle.std.proofs.lemmas.Bool.{cases_lt}
 use Rattle.std.proofs.lemmas.List.{drop_more, drop_all}
 use Rattle.std.proofs.lemmas.List.Sums.{sum_by-cons}
-use Rattle.plan_typed.specs.declared.rel.SetOp.TheVariants as ops
-use Rattle.plan_typed.specs.declared.rel.SetOp.{SetOp}
 use Rattle.hash_chains.specs.First.{rows_where}
-use Rattle.set_places.specs.Taken.{times, times_each, AreEnds, least, allowed}
+use Rattle.set_places.specs.Taken.{times, times_each, AreEnds, least}
 use Rattle.set_places.proofs.TimesLaws.{upto, times-zero, times-split, below_end, from_end}
 
 -- all rows before a place are below the end, and that at the place isn't, if there is one

@@ -1,7 +1,7 @@
 -- Marks of the rows of the first input, class by class.
-use Rattle.std.proofs.Common.{◌≡◌, ◌∙◌, ◌≢◌, ℕ, zero, suc, ◌+◌, ◌-◌, ◌<◌, ◌≤◌, List, [], ◌∷◌, ◌++◌, Bool, true, false, ◌&&◌, ◌||◌, cond, length, map, min, take, set, get_or, nat_lt, nat_eq, replicate, refl, sym, ap, ap₂, subst, arith, inl, inr}
+use Rattle.std.proofs.Common.{◌≡◌, ◌∙◌, ℕ, zero, suc, ◌+◌, ◌-◌, ◌<◌, ◌≤◌, List, [], ◌∷◌, ◌++◌, Bool, true, false, ◌&&◌, ◌||◌, cond, length, map, min, take, set, get_or, nat_lt, nat_eq, replicate, refl, sym, ap, ap₂, arith, inl, inr}
 use Rattle.std.specs.List.{fold, filter, list_any, range_with_len}
-use Rattle.std.proofs.lemmas.Bool.{cases_lt, cases_eq, lt-ltb, le-ltb, ltb-true, eq-eqb, ne_eqb}
+use Rattle.std.proofs.lemmas.Bool.{cases_eq, lt-ltb, eq-eqb, ne_eqb}
 use Rattle.std.proofs.lemmas.List.Elements.{filter-append}
 use Rattle.std.proofs.lemmas.List.{append-nil, length-set, get_or-set_same, get_or-set_other, get_or-replicate, length-replicate}
 use Rattle.std.proofs.lemmas.List.Folds.{list_any-append}
@@ -12,7 +12,7 @@ use Rattle.set_places.specs.declared.marks.Mark.{Mark}
 use Rattle.set_places.specs.declared.marks.Mark.TheVariants.{Open, Passed, Taken}
 use Rattle.set_places.specs.Marks.{mark_of, is_open, is_taken, marked}
 use Rattle.set_places.specs.Taken.{times, times_each, AreEnds, allowed, takes}
-use Rattle.set_places.proofs.TimesLaws.{upto, times-zero, times-split, take-where, among, range-split, same_test, filter-agree_in}
+use Rattle.set_places.proofs.TimesLaws.{upto, times-zero, times-split, among, range-split, same_test, filter-agree_in}
 use Rattle.set_places.proofs.CountLaws.{ends_within}
 
 -- marks put at some rows

@@ -1,7 +1,7 @@
 -- The rows that are taken are those of the operation.
-use Rattle.std.proofs.Common.{◌≡◌, ◌∙◌, ◌≢◌, ℕ, zero, suc, ◌+◌, ◌-◌, ◌<◌, ◌≤◌, List, [], ◌∷◌, ◌++◌, Bool, true, false, not, ◌&&◌, ◌||◌, cond, length, map, min, take, drop, get_or, nat_lt, refl, sym, ap, ap₂, subst, arith, inl, inr, add-one}
-use Rattle.std.specs.List.{filter, flat_map, list_any, list_all, range_with_len, sum, sum_by, count_by}
-use Rattle.std.proofs.lemmas.Bool.{cases_lt, lt-ltb, le-ltb}
+use Rattle.std.proofs.Common.{◌≡◌, ◌∙◌, ◌≢◌, ℕ, zero, suc, ◌+◌, ◌-◌, ◌<◌, ◌≤◌, List, [], ◌∷◌, ◌++◌, Bool, true, false, not, ◌&&◌, ◌||◌, cond, length, map, min, take, drop, get_or, nat_lt, refl, sym, ap, ap₂, arith}
+use Rattle.std.specs.List.{filter, flat_map, list_any, list_all, range_with_len, sum, count_by}
+use Rattle.std.proofs.lemmas.Bool.{lt-ltb, le-ltb}
 use Rattle.std.proofs.lemmas.List.{append-nil, length-append, length-map, length-drop, map-append, take_at, drop_at, drop-drop, drop_more, take_more, take_all, get_or_append_left, take-append-le}
 use Rattle.std.proofs.lemmas.List.Elements.{filter-append}
 use Rattle.std.proofs.lemmas.List.Folds.{fold-map}
@@ -10,7 +10,7 @@ use Rattle.plan_typed.specs.declared.rel.SetOp.{SetOp}
 use Rattle.plan_typed.specs.declared.rel.SetOp.TheVariants as ops
 use Rattle.plan_denote.specs.Rows.{Row}
 use Rattle.plan_denote.specs.Distinct.{is_same_row, distinct, is_in, occurrences}
-use Rattle.plan_denote.specs.Sets.{row_at, is_among, first_so_many, occurrences_in, fewest, set_of}
+use Rattle.plan_denote.specs.Sets.{row_at, is_among, occurrences_in, fewest, set_of}
 use Rattle.group_laws.proofs.SameLaws.{same_rows}
 use Rattle.group_laws.proofs.DistinctLaws.{is_new, distinct-append}
 use Rattle.hash_chains.specs.First.{rows_where}

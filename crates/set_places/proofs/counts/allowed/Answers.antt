@@ -1,6 +1,4 @@
-use Rattle.std.proofs.Common.{◌≡◌, ◌∙◌, ◌-◌, ap, sym, min, arith, length, rules}
-use Rattle.std.specs.List.{sum}
-use Rattle.plan_typed.specs.declared.rel.SetOp.TheVariants as ops
+use Rattle.std.proofs.Common.{◌≡◌, ◌∙◌, ◌-◌, ap, sym, min, length}
 use Rattle.set_places.specs.Taken.{allowed, times_each}
 use Rattle.set_places.proofs.CountLaws.{elsewhere_is}
 use Rattle.set_places.proofs.counts.allowed.Goals as goal

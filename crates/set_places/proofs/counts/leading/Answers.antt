@@ -1,4 +1,4 @@
-use Rattle.std.proofs.Common.{arith, get_or, inl, inr, length}
+use Rattle.std.proofs.Common.{arith, inl, inr, length}
 use Rattle.set_places.proofs.CountLaws.{leading_is}
 use Rattle.set_places.proofs.counts.leading.Goals as goal
 

@@ -1,4 +1,4 @@
-use Rattle.std.proofs.Common.{◌∙◌, arith, get_or, length, refl}
+use Rattle.std.proofs.Common.{get_or, refl}
 use Rattle.set_places.specs.Taken.{times_each, least}
 use Rattle.set_places.proofs.CountLaws.{least_more, least_all}
 use Rattle.set_places.proofs.counts.least_in.Goals as goal

@@ -1,4 +1,4 @@
-use Rattle.std.proofs.Common.{◌∙◌, ap, min, take, length, arith}
+use Rattle.std.proofs.Common.{◌∙◌, ap, min, arith}
 use Rattle.set_places.specs.Taken.{times, times_each, allowed}
 use Rattle.set_places.proofs.CountLaws.{ends_within}
 use Rattle.set_places.proofs.MarkLaws.{marks_are}

@@ -1,0 +1,4 @@
+pub mod PieceLaws
+pub mod KeyedLaws
+pub mod TakenLaws
+pub mod TypedLaws
