@@ -1,0 +1,5 @@
+mod BehindLaws
+mod KeptLaws
+mod PlaceLaws
+pub mod StepLaws
+mod WindowLaws

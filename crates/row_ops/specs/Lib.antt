@@ -1,0 +1,4 @@
+pub mod Behind
+pub mod Kept
+pub mod Stepped
+pub mod Windows
