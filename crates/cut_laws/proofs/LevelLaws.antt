@@ -21,7 +21,7 @@ use Rattle.cut_laws.specs.Reads.{reads_of, reads_of_op, Inputs}
 pub opened : (level : Op-F Op Rel) (op : Op) → roll-Op level ≡ op → out-Op op ≡ level
 opened level op rolls = sym (sym (out-roll-Op level) ∙ ap out-Op rolls)
 
-held_inputs : (O : Op → Type 0) (P : Rel → Type 0) (z : Op-F (With O) (With P)) → Inputs P (map-Op (With O) (With P) Op Rel (λ e. e.0) (λ e. e.0) z)
+pub held_inputs : (O : Op → Type 0) (P : Rel → Type 0) (z : Op-F (With O) (With P)) → Inputs P (map-Op (With O) (With P) Op Rel (λ e. e.0) (λ e. e.0) z)
 held_inputs O P (Op-F.Read source names types filter mask) = tt
 held_inputs O P (Op-F.Filter input condition) = input.1
 held_inputs O P (Op-F.Project input exprs) = input.1

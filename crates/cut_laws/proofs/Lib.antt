@@ -3,3 +3,4 @@ pub mod StreamLaws
 pub mod SortLaw
 pub mod ConditionLaws
 pub mod TypeLaws
+pub mod ReadLaws

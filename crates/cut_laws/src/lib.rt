@@ -1,7 +1,7 @@
 //! Laws of relations that are cut into pipelines: a sort by expressions is one by columns, a join is one by its keys and the rest of
 //! its condition over rows that were gathered before, these parts of a well-typed condition are well typed, and what each pipeline
 //! gathers stands on what the earlier ones gave. `specs/Reads.antt` has the read relations of a relation in the order in which they
-//! run, and what they read.
+//! run, and what they read, and `specs/Found.antt` finds them by their numbers.
 #![tactic(auto)]
 
 ghost use Rattle.std.specs.Prelude.{◌≡◌, ◌++◌, ◌∷◌, ℕ, List, Option, map, length};
@@ -10,10 +10,12 @@ ghost use Rattle.sub_types.specs.declared.kind.Ty.{Ty};
 ghost use Rattle.sub_types.specs.Stream.{Stream, rows_alone};
 ghost use Rattle.plan_typed.specs.declared.expr.Expr.{Expr};
 ghost use Rattle.plan_typed.specs.declared.rel.JoinKind.{JoinKind};
+ghost use Rattle.plan_typed.specs.declared.rel.Rel.{Rel};
 ghost use Rattle.plan_typed.specs.declared.rel.SortKey.{SortKey};
-ghost use Rattle.well_typed.specs.WellTyped.{IsConditionOver};
+ghost use Rattle.plan_typed.specs.Numbers.{numbers_of};
+ghost use Rattle.well_typed.specs.WellTyped.{AllDiffer, IsConditionOver};
 ghost use Rattle.plan_denote.specs.Conjuncts.{keys_of, rest_of};
-ghost use Rattle.plan_denote.specs.Denote.{direction_of, join_of};
+ghost use Rattle.plan_denote.specs.Denote.{Tables, direction_of, join_of};
 ghost use Rattle.plan_denote.specs.Eval.{eval};
 ghost use Rattle.plan_denote.specs.Join.{Join, joined, crossed};
 ghost use Rattle.plan_denote.specs.Project.{projected, emitted};
@@ -25,7 +27,9 @@ ghost use Rattle.plan_pipes.specs.RowMeaning.{join_by, sorted_by};
 ghost use Rattle.plan_pipes.specs.Run.{Meaning, flow, run, stream_at};
 ghost use Rattle.plan_pipes.specs.TypeMeaning.{AreTypedPipes, gathered, types_over};
 ghost use Rattle.rel_parts.specs.Parts.{IsJoinSpec, IsCrossSpec, orders_from};
+ghost use Rattle.cut_laws.specs.Found.{inputs_of, columns_read};
 ghost use Rattle.cut_laws.specs.Keys.{HasColumns};
+ghost use Rattle.cut_laws.specs.Reads.{ReadsGive, ReadsHave};
 
 /// A sort by expressions of rows of one width is a sort by the columns that their values become behind each row, of which then the
 /// row's own columns are kept.
@@ -49,6 +53,13 @@ pub fn join_of_gathered()
 pub fn parts_of_conditions()
     ensures keys { (left right : List Ty) (on : Expr) → IsConditionOver (left ++ right) on → AllByRecursion (HasColumns left right) (keys_of (length left) on) }
     ensures rest { (left right : List Ty) (on : Expr) → IsConditionOver (left ++ right) on → AllByRecursion (IsConditionOver (left ++ right)) (rest_of (length left) on) }
+{}
+
+/// Where relations have different numbers, as those of a well-typed plan have, the rows that its read relations read and the types of
+/// their columns are found by their numbers.
+pub fn reads_are_found()
+    ensures rows { (tables : Tables) (rel : Rel) → AllDiffer (numbers_of rel) → ReadsGive tables (inputs_of tables rel) rel }
+    ensures columns { (rel : Rel) → AllDiffer (numbers_of rel) → ReadsHave (columns_read rel) rel }
 {}
 
 /// What a pipeline gathers, whatever runs behind it, is what its feed gives, through its steps, over what the earlier ones gathered
