@@ -1,0 +1,65 @@
+// Batches of two columns of small numbers, some of them null.
+ghost use Rattle.std.specs.Prelude.{◌≡◌, ◌∷◌, [], IfOk};
+ghost use Rattle.batch.specs.BatchRows.{types_of};
+
+use crate::random::Random;
+use batch::{Batch, Column, ColumnBuilder};
+use std::alloc::Global;
+use sub_types::{Kind, NoMemory, Ty, Value};
+
+pub(crate) const NUMBER: Ty = Ty {
+    kind: Kind::I64,
+    nullable: true,
+};
+
+// Up to six rows.
+pub(crate) fn random_batch(alloc: Global, random: &mut Random) -> Result<Batch, NoMemory>
+    ensures { IfOk result (λ batch. types_of batch ≡ NUMBER ∷ NUMBER ∷ []) }
+{
+    let rows = random.below(7);
+    let first = numbers(alloc, random, rows)?;
+    let second = numbers(alloc, random, rows)?;
+    batch_of(alloc, first, second)
+}
+
+// So many numbers from 0 to 2, and a null for one in four.
+fn numbers(alloc: Global, random: &mut Random, rows: u64) -> Result<Column, NoMemory>
+    ensures { IfOk result (λ column. column.ty ≡ NUMBER) }
+{
+    let mut builder = ColumnBuilder::new(alloc, NUMBER);
+    for _ in 0..rows {
+        let number = random.below(4) as i64;
+        push_number(&mut builder, number)?;
+    }
+    Ok(builder.finish())
+}
+
+// Adds a number, and a null in place of 3.
+fn push_number(builder: &mut ColumnBuilder, number: i64) -> Result<(), NoMemory>
+    requires { builder.old.ty ≡ NUMBER }
+    ensures { builder.new.ty ≡ builder.old.ty }
+{
+    if number == 3 {
+        builder.push(&Value::Null)
+    } else {
+        builder.push(&Value::Int(number))
+    }
+}
+
+// A batch of two columns, where they are as long as each other.
+fn batch_of(alloc: Global, first: Column, second: Column) -> Result<Batch, NoMemory>
+    ensures { IfOk result (λ batch. types_of batch ≡ first.ty ∷ second.ty ∷ []) }
+{
+    let rows = first.values.len();
+    if second.values.len() != rows {
+        return Err(NoMemory);
+    }
+    let mut columns = Vec::new(alloc);
+    columns.push(first)?;
+    columns.push(second)?;
+    Ok(Batch {
+        number: 0,
+        rows: rows as u64,
+        columns,
+    })
+}

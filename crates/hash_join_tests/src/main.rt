@@ -1,0 +1,24 @@
+// Random joins of every kind by `hash_join`, each against the row engine's join of the same rows, which tries every pair. The left
+// rows come in two pieces with marks of their own, and the right rows in two parts. Keys collide and are null, and the rest of the
+// condition may fault.
+#![tactic(auto)]
+
+mod batches;
+mod conditions;
+mod random;
+mod rows;
+mod trial;
+
+use anyhow::Result;
+use trial::agreeing;
+
+/// How many joins are tried.
+const JOINS: u32 = 2_000;
+
+fn main(rt: HostRuntime) -> Result<()> {
+    match agreeing(rt.alloc(), JOINS) {
+        Ok(count) => println!(rt; "{count} of {JOINS} joins agree")?,
+        Err(_) => println!(rt; "no memory")?,
+    }
+    Ok(())
+}
