@@ -1,7 +1,6 @@
 // One random join after another.
-ghost use Rattle.std.specs.Prelude.{◌≡◌, ◌∷◌, [], All, IfOk, length};
+ghost use Rattle.std.specs.Prelude.{◌≡◌, ◌∷◌, [], IfOk};
 ghost use Rattle.batch.specs.BatchRows.{types_of};
-ghost use Rattle.rel_specs.specs.declared.join.JoinSpec.{JoinSpec};
 ghost use Rattle.join_columns.specs.Sides.{HasKinds};
 ghost use Rattle.hash_join.specs.Built.{IsJoinable};
 
