@@ -23,6 +23,7 @@ ghost use Rattle.batch_nodes.specs.Parts as parts;
 use crate::leaves::{column, constant};
 use crate::lists::{earlier, places_of, repeated};
 use crate::nodes::{Chosen, Columns, call_values, cast_values, if_values, switch_values};
+use among_constants::among_constants;
 use batch::{Batch, Column};
 use batch_calls::{look, rows_sought};
 use batch_nodes::{Early, Found, decide, join, nothing, rows_choosing, rows_left};
@@ -427,6 +428,9 @@ fn look_each<'a>(
     requires exist { All (λ row. row < batch.now.rows) rows.now }
     ensures { IfOk result (λ out. IsUntil (eval_at (exprs.OneOf value.now options.now ty) batch.now) rows.now (ty_of (exprs.OneOf value.now options.now ty)).kind out.0 out.1) }
 {
+    if let Some(column) = among_constants(alloc, ty, options, values)? {
+        return Ok((Found::Made(column), stop));
+    }
     let answers = Column::constant(alloc, ty, &Value::Bool(false), values.len())?;
     let mut state = (answers, stop);
     for option in options {

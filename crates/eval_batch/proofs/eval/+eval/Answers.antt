@@ -1,10 +1,13 @@
 -- Each node, by what its parts are worth at the rows.
-use Rattle.std.proofs.Common.{◌≡◌, ◌∙◌, ℕ, ◌+◌, ◌<◌, ◌≤◌, [], ◌∷◌, ◌++◌, length, map, take, replicate, false, true, Ok, sym, ap, ap₂, subst, arith, rules, IfOk, refl}
+use Rattle.std.proofs.Common.{◌≡◌, ◌∙◌, ℕ, ◌+◌, ◌<◌, ◌≤◌, [], ◌∷◌, ◌++◌, List, Option, length, map, take, replicate, false, true, Ok, sym, ap, ap₂, subst, arith, rules, IfOk, refl}
 use Rattle.std.specs.List.{All}
+use Rattle.std.specs.Option.{IfSome}
 use Rattle.std.proofs.lemmas.List.{length-append, length-replicate, length-map}
 use Rattle.std.proofs.lemmas.List.Elements.{All-take}
 use Rattle.sub_types.specs.Kind.{IsKind}
 use Rattle.sub_types.specs.Value.{InKind}
+use Rattle.sub_types.specs.declared.kind.Kind.{Kind}
+use Rattle.sub_types.specs.declared.kind.Kind.TheVariants as kinds
 use Rattle.sub_types.specs.declared.kind.Ty.{Ty}
 use Rattle.sub_types.specs.declared.value.Value.{Value}
 use Rattle.sub_types.specs.declared.value.Value.TheVariants as values
@@ -15,7 +18,9 @@ use Rattle.plan_typed.specs.Types.{ty_of}
 use Rattle.well_typed.specs.ExprTyped.{IsTypedOver}
 use Rattle.batch.specs.BatchRows.{types_of}
 use Rattle.batch.specs.ColumnValues.{values_of}
+use Rattle.batch.specs.declared.batch.Batch.{Batch}
 use Rattle.batch.specs.declared.column.Column.{Column}
+use Rattle.kernels.specs.declared.selection.Stop.{Stop}
 use Rattle.kernels.specs.declared.selection.Stop.TheVariants.{Never}
 use Rattle.batch_nodes.specs.Early as early_spec
 use Rattle.batch_nodes.specs.declared.early.Early.TheVariants.{Truth, NotNull}
@@ -450,3 +455,20 @@ pub case_columns-returns-clause-count : goal.case_columns-returns-clause-count
 case_columns-returns-clause-count t c =
     let end : length c.args.arms.now ≤ c.loop-arm.arm-index = search rules in
     omega (arith, end, c.loop-arm.invariant.0)
+
+-- ---- options that are constants
+
+pub look_each-among_constants-requires : goal.look_each-among_constants-requires
+look_each-among_constants-requires t c = one_of_kind c.args.batch.now c.args.value.now c.args.options.now c.args.ty c.requires.typed
+
+pub look_each-returns-in-Some : goal.look_each-returns-in-Some
+look_each-returns-in-Some t c =
+    let value = c.args.value.now in
+    let options = c.args.options.now in
+    let ty = c.args.ty in
+    let P : Column → Type 0 = λ column. (value : Expr) (batch : Batch) (rows : List ℕ) (kind : Kind) (stop : Stop) →
+    IsUntil (eval_at value batch) rows kind c.args.values.now stop → IsUntil (eval_at (e.OneOf value options ty) batch) rows kinds.Bool (Made column) stop in
+    let answers : P c.in-Some.column = subst (λ (made : Option Column). IfSome made P) c.in-Some.is c.in_ok-column.ensures.answers in
+    let kind = sym (one_of_kind c.args.batch.now value options ty c.requires.typed) ∙ ap (λ (one : Ty). one.kind) (type_in (Expr-F.OneOf value options ty) (e.OneOf value options ty) (rolls-OneOf value options ty)) in
+    subst (λ kind. IsUntil (eval_at (e.OneOf value options ty) c.args.batch.now) c.args.rows.now kind (Made c.in-Some.column) c.args.stop) kind
+    (answers value c.args.batch.now c.args.rows.now (ty_of value).kind c.args.stop c.requires.values)
