@@ -6,8 +6,8 @@ use crate::file::{BlockFile, BlockPlace};
 use std::alloc::Global;
 use sub_types::NoMemory;
 
-/// The files of a table and the places of their blocks: file by file, each from its first block to its last. A
-/// block's number is the place of its place.
+/// The files of a table and the places of their blocks: file by file, each from its first block to its last. The
+/// blocks are numbered from 0 on in this order.
 #[derive(Debug, Drop)]
 pub struct TableBlocks {
     pub files: Vec<BlockFile>,

@@ -1,0 +1,10 @@
+//! Rounds over the blocks of files at concrete types: the rows of each block are counted, by readers in memory.
+#![tactic(auto)]
+
+mod counting;
+mod opening;
+mod run;
+
+pub use counting::RowCount;
+pub use opening::{OpenFiles, open_files};
+pub use run::count_rows;
