@@ -1,5 +1,5 @@
 -- The parts of a join of two columns of numbers on each side.
-use Rattle.std.proofs.Common.{◌≡◌, zero, suc, [], ◌∷◌, refl, sym, subst, arith}
+use Rattle.std.proofs.Common.{true, ◌≡◌, zero, suc, [], ◌∷◌, refl, sym, subst, arith}
 use Rattle.std.specs.List.{All, AllByRecursion}
 use Rattle.sub_types.specs.Kind.{IsKind}
 use Rattle.sub_types.specs.declared.kind.Kind.TheVariants as kinds
