@@ -13,7 +13,7 @@ fn mixed(i: usize) -> i64 {
     let mut x = (i as u64).wrapping_add(0x9e37_79b9_7f4a_7c15);
     x = (x ^ (x >> 30)).wrapping_mul(0xbf58_476d_1ce4_e5b9);
     x = (x ^ (x >> 27)).wrapping_mul(0x94d0_49bb_1331_11eb);
-    (x ^ (x >> 31)) as i64
+    ((x ^ (x >> 31)) >> 1) as i64
 }
 
 fn numbers(from: usize, rows: usize) -> Vec<(i64, i64)> {
