@@ -14,3 +14,4 @@ mod retype;
 pub use check::check_batch;
 pub use file::read_file;
 pub use piece::{TableRead, read_piece};
+pub use retype::retyped;

@@ -7,8 +7,8 @@ ghost use Rattle.table_rows.specs.Read.{kinds_of};
 use batch::{Batch, Column};
 use sub_types::Ty;
 
-/// The batch with these types, which say of each column whether nulls may stand in it.
-pub(crate) fn retyped(types: &[Ty], batch: Batch) -> Batch
+/// The batch with these types, which say of each column whether nulls may stand in it. No value is copied.
+pub fn retyped(types: &[Ty], batch: Batch) -> Batch
     requires { kinds_of (types_of batch) ≡ kinds_of types.now }
     ensures columns { columns_of result ≡ columns_of batch }
     ensures count { result.rows ≡ batch.rows }
