@@ -1,0 +1,100 @@
+-- Pieces up to their first fault, and pieces behind others.
+use Rattle.std.proofs.Common.{◌≡◌, ◌∙◌, List, [], ◌∷◌, ◌++◌, Option, Some, None, map, refl, sym, ap, ap₂, append_assoc}
+use Rattle.std.specs.List.{All, AllByRecursion, flat_map}
+use Rattle.std.proofs.lemmas.Grind.{flat_map-append}
+use Rattle.std.proofs.lemmas.List.{append-nil, map-append}
+use Rattle.sub_types.specs.declared.fault.Fault.{Fault}
+use Rattle.sub_types.specs.Stream.{Stream, rows_alone, ended, followed_by, glue}
+use Rattle.sub_types.proofs.StreamLaws.{glue-append}
+use Rattle.batch.specs.declared.batch.Batch.{Batch}
+use Rattle.batch.specs.declared.batch.Piece.{Piece}
+use Rattle.batch.specs.BatchRows.{rows_of, stream_of_piece}
+use Rattle.plan_denote.specs.Rows.{Row}
+use Rattle.set_rels.specs.Inputs.{stream_of, rows_in}
+use Rattle.set_rels.proofs.PieceLaws.{stream_of_batches}
+use Rattle.pipe_ends.specs.Given.{behind, up_to_fault}
+
+-- a stream of these rows and this end
+abbrev stream : List Row → Option Fault → Stream Row
+stream rows end = record { rows = rows; end = end }
+
+same_behind : (rows : List Row) (end : Option Fault) (rest kept : List Piece) → stream_of kept ≡ stream_of rest → followed_by (stream rows end) (stream_of (behind end kept)) ≡ followed_by (stream rows end) (stream_of rest)
+same_behind rows None rest kept same = ap (followed_by (stream rows None)) same
+same_behind rows (Some fault) rest kept same = refl
+
+-- what is behind a fault doesn't count
+pub same_stream : (pieces : List Piece) → stream_of (up_to_fault pieces) ≡ stream_of pieces
+same_stream [] = refl
+same_stream (piece ∷ pieces) = same_behind (rows_of piece.batch) piece.end pieces (up_to_fault pieces) (same_stream pieces)
+
+rows_behind : (rows : List Row) (end : Option Fault) (kept : List Piece) → rows_in kept ≡ (stream_of kept).rows → rows ++ rows_in (behind end kept) ≡ (followed_by (stream rows end) (stream_of (behind end kept))).rows
+rows_behind rows None kept same = ap (λ more. rows ++ more) same
+rows_behind rows (Some fault) kept same = append-nil rows
+
+-- and all rows up to it do
+pub all_count : (pieces : List Piece) → rows_in (up_to_fault pieces) ≡ (stream_of (up_to_fault pieces)).rows
+all_count [] = refl
+all_count (piece ∷ pieces) = rows_behind (rows_of piece.batch) piece.end (up_to_fault pieces) (all_count pieces)
+
+kept_behind : (P : Piece → Type 0) (end : Option Fault) (kept : List Piece) → AllByRecursion P kept → AllByRecursion P (behind end kept)
+kept_behind P None kept all = all
+kept_behind P (Some fault) kept all = tt
+
+-- what holds of all pieces holds of these
+pub kept_all : (P : Piece → Type 0) (pieces : List Piece) → AllByRecursion P pieces → AllByRecursion P (up_to_fault pieces)
+kept_all P [] all = tt
+kept_all P (piece ∷ pieces) all = (all.0, kept_behind P piece.end (up_to_fault pieces) (kept_all P pieces all.1))
+
+-- a piece behind others
+alone : (rows : List Row) (end : Option Fault) → followed_by (stream rows end) (rows_alone []) ≡ stream rows end
+alone rows None = ap (λ all. stream all None) (append-nil rows)
+alone rows (Some fault) = refl
+
+-- rows and then an end
+pub rows_and_end : (rows : List Row) (end : Option Fault) → followed_by (rows_alone rows) (ended end) ≡ stream rows end
+rows_and_end rows end = ap (λ all. stream all end) (append-nil rows)
+
+-- the rows of batches up to the first fault
+rows_of_batches : (pieces : List Piece) → flat_map rows_of (map (λ (piece : Piece). piece.batch) pieces) ≡ rows_in pieces
+rows_of_batches [] = refl
+rows_of_batches (piece ∷ pieces) = ap (λ more. rows_of piece.batch ++ more) (rows_of_batches pieces)
+
+pub rows_counted : (batches : List Batch) (pieces : List Piece) (end : Option Fault) → batches ≡ map (λ (piece : Piece). piece.batch) (up_to_fault pieces) → end ≡ (stream_of pieces).end → stream (flat_map rows_of batches) end ≡ stream_of pieces
+rows_counted batches pieces end are end_is =
+    ap₂ stream
+    (ap (flat_map rows_of) are ∙ rows_of_batches (up_to_fault pieces) ∙ all_count pieces ∙ ap (λ (s : Stream Row). s.rows) (same_stream pieces))
+    end_is
+
+-- rows in batches, and then an end
+pub and_end_is : (pieces all : List Piece) (batches : List Batch) (rows : List Row) (end : Option Fault) → map stream_of_piece all ≡ map stream_of_piece pieces ++ ended end ∷ [] → map (λ (piece : Piece). piece.batch) pieces ≡ batches
+    → All (λ (piece : Piece). piece.end ≡ None) pieces → flat_map rows_of batches ≡ rows → stream_of all ≡ stream rows end
+and_end_is pieces all batches rows end more are none rows_is =
+    ap glue more
+    ∙ glue-append (map stream_of_piece pieces) (ended end ∷ [])
+    ∙ ap (followed_by (stream_of pieces)) (alone [] end)
+    ∙ ap (λ s. followed_by s (ended end)) (stream_of_batches pieces batches are none ∙ ap rows_alone rows_is)
+    ∙ rows_and_end rows end
+
+rows_by : (pieces : List Piece) → rows_in pieces ≡ flat_map (λ (s : Stream Row). s.rows) (map stream_of_piece pieces)
+rows_by [] = refl
+rows_by (piece ∷ pieces) = ap (λ more. rows_of piece.batch ++ more) (rows_by pieces)
+
+pub and_end_rows : (pieces all : List Piece) (batches : List Batch) (rows : List Row) (end : Option Fault) → map stream_of_piece all ≡ map stream_of_piece pieces ++ ended end ∷ [] → map (λ (piece : Piece). piece.batch) pieces ≡ batches
+    → flat_map rows_of batches ≡ rows → rows_in all ≡ rows
+and_end_rows pieces all batches rows end more are rows_is =
+    rows_by all
+    ∙ ap (flat_map (λ (s : Stream Row). s.rows)) more
+    ∙ flat_map-append (λ (s : Stream Row). s.rows) (map stream_of_piece pieces) (ended end ∷ [])
+    ∙ append-nil (flat_map (λ (s : Stream Row). s.rows) (map stream_of_piece pieces))
+    ∙ sym (rows_by pieces) ∙ sym (rows_of_batches pieces) ∙ ap (flat_map rows_of) are ∙ rows_is
+
+-- one item more, of a list that is gone over
+pub mapped_more : {A B C : Type 0} (f : A → C) (g : B → C) (old new : List A) (x : A) (y : B) (all rest : List B) (whole : List C) → all ≡ y ∷ rest → new ≡ old ++ x ∷ [] → f x ≡ g y → map f old ++ map g all ≡ whole
+    → map f new ++ map g rest ≡ whole
+mapped_more f g old new x y all rest whole parts pushed same so_far =
+    ap (λ l. map f l ++ map g rest) pushed
+    ∙ ap (λ l. l ++ map g rest) (map-append f old (x ∷ []))
+    ∙ append_assoc (map f old) (f x ∷ []) (map g rest)
+    ∙ ap (λ one. map f old ++ one ∷ map g rest) same
+    ∙ ap (λ l. map f old ++ map g l) (sym parts)
+    ∙ so_far

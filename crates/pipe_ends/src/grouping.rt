@@ -1,0 +1,100 @@
+// Aggregates, over one set of groups or several, by their rows.
+ghost use Rattle.std.specs.Prelude.{◌≡◌, All, IfOk};
+ghost use Rattle.batch.specs.BatchRows.{types_of};
+ghost use Rattle.set_rels.specs.Inputs.{stream_of};
+ghost use Rattle.plan_pipes.specs.RowMeaning.{aggregated_by, grouped_by};
+ghost use Rattle.pipe_types.specs.Over.{IsBreakerOver};
+ghost use Rattle.plan_pipes.specs.declared.pipe.Breaker.TheVariants as breakers;
+ghost use Rattle.row_steps.specs.Seen.{seen};
+ghost use Rattle.pipe_steps.specs.Ready.{IsFit};
+ghost use Rattle.pipe_types.specs.Exact.{gathered_types};
+
+use crate::kinds::are_kinds;
+use crate::rows::{pieces_of_rows, rows_of_pieces};
+use crate::set_groups::sets_in;
+use crate::types::{aggregate_types, grouping_types};
+use batch::Piece;
+use rel_specs::{AggSpec, SetSpec};
+use row_groups::{aggregated, grouping_sets};
+use row_steps::RowStream;
+use std::alloc::Global;
+use sub_types::{NoMemory, Ty};
+
+/// The most sets of groups.
+const MAX_GROUPINGS: usize = 64;
+
+/// The rows of an aggregate over pieces of these types.
+pub(crate) fn aggregated_pieces(
+    alloc: Global,
+    spec: &AggSpec,
+    types: &[Ty],
+    pieces: Vec<Piece>,
+) -> Result<Vec<Piece>, NoMemory>
+    requires over { IsBreakerOver types.now (breakers.Aggregate spec.now) }
+    requires typed { All (λ piece. types_of piece.batch ≡ types.now) pieces.items }
+    requires fit { All (λ piece. IsFit piece.batch) pieces.items }
+    ensures stream { IfOk result (λ out. stream_of out.items ≡ aggregated_by spec.now (stream_of pieces.items)) }
+    ensures typed { IfOk result (λ out. All (λ piece. types_of piece.batch ≡ gathered_types (breakers.Aggregate spec.now) types.now) out.items) }
+    ensures fit { IfOk result (λ out. All (λ piece. IsFit piece.batch) out.items) }
+{
+    let given = aggregate_types(alloc, spec)?;
+    if !are_kinds(&given) {
+        return Err(NoMemory);
+    }
+    let rows = aggregated_rows(alloc, spec, pieces)?;
+    let out = pieces_of_rows(alloc, &given, rows)?;
+    Ok(out)
+}
+
+// The same, as rows.
+fn aggregated_rows(alloc: Global, spec: &AggSpec, pieces: Vec<Piece>) -> Result<RowStream, NoMemory>
+    ensures { IfOk result (λ s. seen s ≡ aggregated_by spec.now (stream_of pieces.items)) }
+{
+    let input = rows_of_pieces(alloc, pieces)?;
+    let rows = aggregated(alloc, spec.relation, &spec.groups, &spec.measures, input)?;
+    Ok(rows)
+}
+
+/// The rows of an aggregate over several sets of groups, over pieces of these types. More than 64 sets are `NoMemory`: no plan has
+/// them.
+pub(crate) fn grouped_pieces(
+    alloc: Global,
+    spec: &SetSpec,
+    types: &[Ty],
+    pieces: Vec<Piece>,
+) -> Result<Vec<Piece>, NoMemory>
+    requires over { IsBreakerOver types.now (breakers.GroupSets spec.now) }
+    requires typed { All (λ piece. types_of piece.batch ≡ types.now) pieces.items }
+    requires fit { All (λ piece. IsFit piece.batch) pieces.items }
+    ensures stream { IfOk result (λ out. stream_of out.items ≡ grouped_by spec.now (stream_of pieces.items)) }
+    ensures typed { IfOk result (λ out. All (λ piece. types_of piece.batch ≡ gathered_types (breakers.GroupSets spec.now) types.now) out.items) }
+    ensures fit { IfOk result (λ out. All (λ piece. IsFit piece.batch) out.items) }
+{
+    let given = grouping_types(alloc, spec)?;
+    if !are_kinds(&given) {
+        return Err(NoMemory);
+    }
+    if spec.sets.len() > MAX_GROUPINGS {
+        return Err(NoMemory);
+    }
+    let rows = grouped_rows(alloc, spec, pieces)?;
+    let out = pieces_of_rows(alloc, &given, rows)?;
+    Ok(out)
+}
+
+// The same, as rows.
+fn grouped_rows(alloc: Global, spec: &SetSpec, pieces: Vec<Piece>) -> Result<RowStream, NoMemory>
+    ensures { IfOk result (λ s. seen s ≡ grouped_by spec.now (stream_of pieces.items)) }
+{
+    let input = rows_of_pieces(alloc, pieces)?;
+    let sets = sets_in(alloc, &spec.sets)?;
+    let rows = grouping_sets(
+        alloc,
+        spec.relation,
+        &spec.groups,
+        &sets,
+        &spec.measures,
+        input,
+    )?;
+    Ok(rows)
+}
