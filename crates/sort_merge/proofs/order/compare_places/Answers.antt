@@ -1,8 +1,8 @@
 use Rattle.std.proofs.Common.{rules, tests, ◌≡◌, ◌&&◌, true, false}
 use Rattle.batch_places.specs.BatchRow.{has_row}
 use Rattle.sort_merge.proofs.RowLaws.{by_keys, by_presence, not_first, not_second}
-use Rattle.sort_merge.proofs.sort.compare_places.Goals as goal
-use Rattle.sort_merge.proofs.sort.compare_places.Goals.{else-first-via-then-first+else-second, else-first-via-else-first}
+use Rattle.sort_merge.proofs.order.compare_places.Goals as goal
+use Rattle.sort_merge.proofs.order.compare_places.Goals.{else-first-via-then-first+else-second, else-first-via-else-first}
 
 pub returns-then-second : goal.returns-then-second
 returns-then-second c =
