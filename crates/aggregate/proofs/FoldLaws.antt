@@ -1,5 +1,5 @@
 -- What is known of rows and of the rows behind them.
-use Rattle.std.proofs.Common.{◌≡◌, ◌∙◌, ℕ, suc, ◌+◌, ◌-◌, ◌<◌, ◌≤◌, List, [], ◌∷◌, ◌++◌, Bool, true, false, Option, Some, None, Result, Ok, Err, length, map, refl, sym, ap, ap₂, subst, arith}
+use Rattle.std.proofs.Common.{◌≡◌, ◌∙◌, ℕ, suc, ◌+◌, ◌<◌, ◌≤◌, List, [], ◌∷◌, ◌++◌, Bool, true, false, Option, Some, None, Result, Ok, Err, length, map, refl, sym, ap, ap₂, subst, arith}
 use Rattle.std.specs.Prelude.{nat_le, not, ◌==◌}
 use Rattle.std.specs.List.{All, AllByRecursion, range_with_len}
 use Rattle.std.specs.Option.{option_map}
@@ -11,20 +11,19 @@ use Rattle.sub_types.specs.declared.fault.Fault.{Fault}
 use Rattle.sub_types.specs.declared.fault.FaultKind.{FaultKind}
 use Rattle.sub_types.specs.declared.kind.Ty.{Ty}
 use Rattle.sub_types.specs.Value.{Fits}
-use Rattle.sub_types.specs.Stream.{Stream, rows_alone, ended, followed_by, glue, stream_of}
+use Rattle.sub_types.specs.Stream.{Stream, ended, followed_by, glue, stream_of}
 use Rattle.sub_types.proofs.StreamLaws.{followed_by_assoc, each_stream-followed_by}
 use Rattle.plan_typed.specs.declared.expr.Expr.{Expr}
-use Rattle.plan_denote.specs.Rows.{Row, Formula, at_relation, fault_at}
+use Rattle.plan_denote.specs.Rows.{Row, at_relation, fault_at}
 use Rattle.plan_denote.specs.Distinct.{is_same_row, distinct}
-use Rattle.plan_denote.specs.Aggregate.{MAX_INPUT, Measure, Entry, entry_of, keys_in}
+use Rattle.plan_denote.specs.Aggregate.{MAX_INPUT, Entry, entry_of, keys_in}
 use Rattle.plan_denote.specs.Denote.{measure_of}
 use Rattle.plan_denote.specs.Eval.{eval}
 use Rattle.batch.specs.declared.batch.Batch.{Batch}
 use Rattle.batch.specs.declared.batch.Piece.{Piece}
 use Rattle.batch.specs.BatchRows.{rows_of, stream_of_piece}
 use Rattle.rel_specs.specs.declared.groups.AggSpec.{AggSpec}
-use Rattle.group_laws.specs.Columns.{Column, stream_at}
-use Rattle.group_laws.specs.Pieces.{entries_in}
+use Rattle.group_laws.specs.Columns.{stream_at}
 use Rattle.group_laws.proofs.ColumnLaws.{entries_by_columns}
 use Rattle.row_keys.specs.Keys.{key_of}
 use Rattle.group_numbers.specs.Keys.{with_keys, keys_at}

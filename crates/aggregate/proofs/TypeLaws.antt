@@ -1,8 +1,7 @@
 -- The rows that an aggregate gives fit its types.
-use Rattle.std.proofs.Common.{◌≡◌, ◌∙◌, List, [], ◌∷◌, ◌++◌, Option, Some, None, length, map, refl, sym, ap, subst, arith}
+use Rattle.std.proofs.Common.{List, [], ◌∷◌, ◌++◌, Option, Some, None, map}
 use Rattle.std.specs.List.{All, AllByRecursion}
 use Rattle.std.specs.Option.{option_to_list}
-use Rattle.std.proofs.lemmas.List.Elements.{All-cons, All-nil}
 use Rattle.sub_types.specs.declared.kind.Ty.{Ty}
 use Rattle.sub_types.specs.Kind.{IsKind}
 use Rattle.sub_types.specs.Value.{Fits}
@@ -11,11 +10,10 @@ use Rattle.plan_typed.specs.declared.expr.Expr.{Expr}
 use Rattle.plan_typed.specs.declared.rel.TypedMeasure.{TypedMeasure}
 use Rattle.plan_typed.specs.Types.{ty_of}
 use Rattle.plan_denote.specs.Rows.{Row}
-use Rattle.plan_denote.specs.Denote.{measure_of}
 use Rattle.plan_pipes.specs.RowMeaning.{aggregated_by}
 use Rattle.well_typed.specs.ExprTyped.{IsTypedOver}
 use Rattle.well_typed.specs.WellTyped.{IsMeasureOver, MayBe}
-use Rattle.well_typed.proofs.ValidKinds.{AreKinds, call_valid, given_valid, typed_kind}
+use Rattle.well_typed.proofs.ValidKinds.{call_valid, typed_kind}
 use Rattle.batch_nodes.proofs.TypedLaws.{by_places}
 use Rattle.rel_specs.specs.declared.groups.AggSpec.{AggSpec}
 use Rattle.denote_typed.proofs.GroupLaws.{aggregated_fits}

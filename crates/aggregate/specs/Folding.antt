@@ -1,5 +1,5 @@
 -- What is known of rows and of the rows behind them.
-use Rattle.std.specs.Prelude.{◌≡◌, ◌<◌, ◌≤◌, ℕ, List, Option, None, Some, Result, Ok, Err, length}
+use Rattle.std.specs.Prelude.{◌≡◌, ◌<◌, List, Option, None, Some, Result, Ok, Err, length}
 use Rattle.std.specs.List.{All, range_with_len}
 use Rattle.sub_types.specs.declared.fault.Fault.{Fault}
 use Rattle.sub_types.specs.Stream.{Stream, followed_by}

@@ -1,10 +1,9 @@
-use Rattle.std.proofs.Common.{◌≡◌, ◌∙◌, ◌+◌, ◌<◌, ◌≤◌, ◌^◌, length, map, drop, refl, sym, ap, subst, arith}
-use Rattle.std.proofs.lemmas.List.{length-map}
+use Rattle.std.proofs.Common.{◌≡◌, ◌∙◌, ◌+◌, ◌<◌, ◌≤◌, length, refl, sym, ap, subst, arith}
 use Rattle.std.proofs.lemmas.List.Elements.{All-get_or}
 use Rattle.plan_denote.specs.Aggregate.{MAX_INPUT}
 use Rattle.group_columns.specs.Columns.{count_in}
 use Rattle.group_columns.proofs.StepLaws.{count_at}
-use Rattle.group_tallies.specs.Kept.{keeping_in, tallies_in, tally_at}
+use Rattle.group_tallies.specs.Kept.{keeping_in, tallies_in}
 use Rattle.aggregate.specs.Finals.{finals_at}
 use Rattle.aggregate.specs.States.{keeping}
 use Rattle.aggregate.proofs.FoldLaws.{kept_many}

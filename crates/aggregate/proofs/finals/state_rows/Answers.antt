@@ -1,6 +1,6 @@
 use Rattle.std.proofs.Common.{sym, subst}
 use Rattle.aggregate.specs.Finals.{AreFinal}
-use Rattle.aggregate.proofs.FinalLaws.{final_ended, final_many, final_known}
+use Rattle.aggregate.proofs.FinalLaws.{final_many, final_known}
 use Rattle.aggregate.proofs.finals.state_rows.Goals as goal
 
 pub returns-in-TooMany-clause-rows : goal.returns-in-TooMany-clause-rows

@@ -1,4 +1,3 @@
-use Rattle.std.proofs.Common.{◌≡◌, subst}
 use Rattle.batch.specs.BatchRows.{stream_of_piece}
 use Rattle.aggregate.specs.States.{entries_by}
 use Rattle.aggregate.proofs.FoldLaws.{ended_stays}

@@ -1,4 +1,4 @@
-use Rattle.std.proofs.Common.{◌≡◌, ◌∙◌, sym, ap₂, subst, List}
+use Rattle.std.proofs.Common.{◌∙◌, sym, ap₂, subst, List}
 use Rattle.std.specs.List.{All}
 use Rattle.plan_typed.specs.declared.expr.Expr.{Expr}
 use Rattle.plan_typed.specs.declared.rel.TypedMeasure.{TypedMeasure}

@@ -1,4 +1,4 @@
-use Rattle.std.proofs.Common.{◌≡◌, ◌∙◌, ◌+◌, ◌<◌, ◌≤◌, ◌^◌, length, sym, ap, subst, arith}
+use Rattle.std.proofs.Common.{◌∙◌, ◌+◌, ◌<◌, ◌≤◌, length, sym, ap, subst, arith}
 use Rattle.std.specs.List.{All}
 use Rattle.plan_denote.specs.Aggregate.{MAX_INPUT}
 use Rattle.group_columns.specs.Columns.{IsWhole}

@@ -1,4 +1,4 @@
-use Rattle.std.proofs.Common.{◌≡◌, ◌∙◌, ◌+◌, ◌<◌, ◌≤◌, ◌^◌, sym, arith}
+use Rattle.std.proofs.Common.{◌∙◌, ◌+◌, ◌<◌, ◌≤◌, sym, arith}
 use Rattle.plan_denote.specs.Aggregate.{MAX_INPUT}
 use Rattle.aggregate.proofs.FoldLaws.{both_too_many, both_known}
 use Rattle.aggregate.proofs.merging.groups_merged.Goals as goal

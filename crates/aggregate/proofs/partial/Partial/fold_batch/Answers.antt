@@ -1,11 +1,11 @@
-use Rattle.std.proofs.Common.{◌≡◌, ◌∙◌, sym, subst}
+use Rattle.std.proofs.Common.{◌∙◌, sym, subst}
 use Rattle.well_typed.specs.ExprTyped.{IsTypedOver}
 use Rattle.well_typed.specs.WellTyped.{IsMeasureOver}
 use Rattle.sub_types.specs.Stream.{followed_by}
 use Rattle.batch.specs.BatchRows.{stream_of_piece, types_of}
 use Rattle.aggregate.specs.Folding.{AreTogether}
 use Rattle.aggregate.specs.States.{Stands, entries_by}
-use Rattle.aggregate.proofs.FoldLaws.{for_stands, fold_of, end_of, fold_for, lost_for}
+use Rattle.aggregate.proofs.FoldLaws.{for_stands, fold_of, end_of, fold_for}
 use Rattle.aggregate.proofs.TypeLaws.{each}
 use Rattle.aggregate.proofs.partial.Partial.fold_batch.Goals as goal
 
