@@ -1,6 +1,6 @@
 use Rattle.std.proofs.Common.{◌≡◌, length, arith}
 use Rattle.row_batches.proofs.ColumnLaws.{all-fit-at, MadeColumns-none, MadeColumns-more, MadeColumns-rows, MadeColumns-types}
-use Rattle.row_batches.proofs.batches.batch_of.Goals as goal
+use Rattle.row_batches.proofs.batches.rows_to_batch.Goals as goal
 
 pub loop-index-init : goal.loop-index-init
 loop-index-init c = rw c.new-columns.ensures.items (MadeColumns-none c.args.types.now c.args.rows.now)

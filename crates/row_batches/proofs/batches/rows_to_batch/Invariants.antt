@@ -1,5 +1,5 @@
 use Rattle.row_batches.proofs.ColumnLaws.{MadeColumns}
-use Rattle.row_batches.proofs.batches.batch_of.Given as goal
+use Rattle.row_batches.proofs.batches.rows_to_batch.Given as goal
 
 -- the columns so far
 abbrev pub invariant-loop-index : goal.invariant-loop-index
