@@ -1,5 +1,5 @@
 // Batches of the rows at places.
-ghost use Rattle.std.specs.Prelude.{◌≡◌, ◌++◌, ◌∷◌, [], ◌<◌, Some, length, map, slice_get, slice_index_or, All, IfOk, OnOk};
+ghost use Rattle.std.specs.Prelude.{◌≡◌, ◌++◌, ◌∷◌, [], ◌<◌, ◌≤◌, Some, length, map, slice_get, slice_index_or, All, IfOk, OnOk};
 ghost use Rattle.std.specs.List.{flat_map};
 ghost use Rattle.sub_types.specs.declared.value.Value.TheVariants.{Null};
 ghost use Rattle.batch.specs.BatchRows.{rows_of, types_of};
@@ -27,6 +27,8 @@ pub fn batches_at(
     requires there { AreThere runs.now places.now }
     ensures rows { IfOk result (λ batches. flat_map rows_of batches.items ≡ map (row_there runs.now) places.now) }
     ensures types { IfOk result (λ batches. All (λ batch. types_of batch ≡ types_of first.now) batches.items) }
+    ensures few { IfOk result (λ batches. All (λ batch. batch.rows ≤ 65536) batches.items) }
+    ensures number { IfOk result (λ batches. All (λ batch. batch.number ≡ 0) batches.items) }
 {
     let mut batches = Vec::new(alloc);
     for part in places.chunks(BATCH_ROWS) {
@@ -46,6 +48,8 @@ fn batch_at(
     requires there { AreThere runs.now places.now }
     ensures rows { IfOk result (λ batch. rows_of batch ≡ map (row_there runs.now) places.now) }
     ensures types { IfOk result (λ batch. types_of batch ≡ types_of first.now) }
+    ensures count { IfOk result (λ batch. batch.rows ≡ length places.now) }
+    ensures number { IfOk result (λ batch. batch.number ≡ 0) }
 {
     let mut columns = Vec::new(alloc);
     for index in 0..first.columns.len() {

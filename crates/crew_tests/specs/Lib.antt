@@ -1,1 +1,2 @@
 pub mod Halvers
+pub mod Pieces

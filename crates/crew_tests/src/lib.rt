@@ -3,9 +3,11 @@
 #![tactic(auto)]
 
 mod halves;
+mod pieces;
 mod run;
 #[cfg(test)]
 mod tests;
 
 pub use halves::{Half, Numbers};
+pub use pieces::{HalfPiece, run_piece_halves};
 pub use run::run_halves;

@@ -32,7 +32,7 @@ use Rattle.denote_typed.proofs.RowsLaws.{mapped, stepped}
 
 -- what is known, and the worth of one more hole
 module _ (hole : Hole) (worth : Worth) where
-  abbrev more : Known → Known
+  abbrev pub more : Known → Known
   more known = known ++ (hole, worth) ∷ []
 
   more_where : (w : Worth) (old new : Option Worth) (slot : Slot) (test : Bool) → (Takes old slot → Takes new slot) → Takes (if test then Some w else old) slot → Takes (if test then Some w else new) slot
@@ -60,7 +60,7 @@ module _ (hole : Hole) (worth : Worth) where
   )
 
 -- what goes to the nodes of a relation, with the worth of one more subquery
-level_more : (known : Known) (sub : Sub) (worth : Worth) → ((slot : Slot) → Awaits sub.kind (columns_of sub.rel) slot → Takes (Some worth) slot)
+pub level_more : (known : Known) (sub : Sub) (worth : Worth) → ((slot : Slot) → Awaits sub.kind (columns_of sub.rel) slot → Takes (Some worth) slot)
     → (rel : Rel-F Op Rel) → IsTakenBy known rel → AwaitsAt sub rel → IsTakenBy (more sub.hole worth known) rel
 level_more known sub worth k rel taken awaits =
     slots_more sub.hole worth known rel.number 0 (slots_of_op (out-Op rel.op)) taken (λ place slot is same at.
@@ -73,7 +73,7 @@ none_taken : (start number : ℕ) (slots : List Slot) → AreTaken (worth_at [] 
 none_taken start number [] = tt
 none_taken start number (slot ∷ slots) = (tt, none_taken (start + 1) number slots)
 
-none_known : (rel : Rel) → AreTyped rel → Every (IsTakenBy []) rel
+pub none_known : (rel : Rel) → AreTyped rel → Every (IsTakenBy []) rel
 none_known rel typed = every_both IsRelation IsRelation (IsTakenBy []) (λ one _ _. none_taken 0 one.number (slots_of_op (out-Op one.op))) rel typed typed
 
 -- the value of a row of one column
@@ -88,7 +88,7 @@ first_kind [] all = tt
 first_kind (ty ∷ columns) all = all.0
 
 -- a worth may go wherever the subquery is awaited
-abbrev Goes : SubKind → List Ty → Worth → Type 0
+abbrev pub Goes : SubKind → List Ty → Worth → Type 0
 Goes kind columns worth = (slot : Slot) → Awaits kind columns slot → Takes (Some worth) slot
 
 null_goes : (columns : List Ty) → Goes subs.Scalar columns (Single values.Null)
@@ -112,14 +112,14 @@ test_goes columns test (OfValue ty) awaits = truth_fits ty test awaits
 test_goes columns test (OfList value ty) awaits = absurd awaits
 test_goes columns test OfNone awaits = absurd awaits
 
-worth_goes : (rel : Rel) (kind : SubKind) (rows : List Row) → AreKinds (columns_of rel) → AllByRecursion (Fits (columns_of rel)) rows → IfOk (worth_of rel kind rows) (Goes kind (columns_of rel))
+pub worth_goes : (rel : Rel) (kind : SubKind) (rows : List Row) → AreKinds (columns_of rel) → AllByRecursion (Fits (columns_of rel)) rows → IfOk (worth_of rel kind rows) (Goes kind (columns_of rel))
 worth_goes rel subs.Scalar [] kinds all = null_goes (columns_of rel)
 worth_goes rel subs.Scalar (row ∷ []) kinds all = value_goes (columns_of rel) row all.0
 worth_goes rel subs.Scalar (row ∷ second ∷ rows) kinds all = tt
 worth_goes rel subs.In rows kinds all = values_go (columns_of rel) rows kinds all
 worth_goes rel subs.Exists rows kinds all = test_goes (columns_of rel) (not (is_empty rows))
 
-unless_goes : (P : Worth → Type 0) (end : Option Fault) (worth : Result Worth Fault) → IfOk worth P → IfOk (worth_unless end worth) P
+pub unless_goes : (P : Worth → Type 0) (end : Option Fault) (worth : Result Worth Fault) → IfOk worth P → IfOk (worth_unless end worth) P
 unless_goes P None worth is = is
 unless_goes P (Some fault) worth is = tt
 

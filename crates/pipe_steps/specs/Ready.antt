@@ -1,5 +1,5 @@
 -- Which batches may go through steps.
-use Rattle.std.specs.Prelude.{List, [], ◌∷◌}
+use Rattle.std.specs.Prelude.{List, ◌∷◌}
 use Rattle.std.specs.List.{All}
 use Rattle.sub_types.specs.Value.{Fits}
 use Rattle.batch.specs.declared.batch.Batch.{Batch}

@@ -29,7 +29,7 @@ IsProbeOver (Some join) given = kinds_of given ≡ kinds_of join.left.items
 -- a step, over the joins that the tables are built for
 abbrev pub IsStepOver : List (Option JoinSpec) → List Ty → Step → Type 0
 IsStepOver joins given (steps.Read relation names types filter mask) =
-    (kinds_of given ≡ kinds_of types) × MayBe (IsConditionOver types) filter × AreBelow (length types) mask
+    AllByRecursion (λ (ty : Ty). IsKind ty.kind) types × (kinds_of given ≡ kinds_of types) × MayBe (IsConditionOver types) filter × AreBelow (length types) mask
 IsStepOver joins given (steps.Filter relation condition) = IsConditionOver given condition
 IsStepOver joins given (steps.Project relation exprs) = AllByRecursion (IsTypedOver given) exprs
 IsStepOver joins given (steps.Keep columns) = AreBelow (length given) columns

@@ -31,13 +31,13 @@ pub fn rows_to_batches(
     for number in 0..(rows.len() + 1023) / BATCH_ROWS {
         let from = number * BATCH_ROWS;
         let to = rows.len().min(from + BATCH_ROWS);
-        batches.push(batch_of(alloc, types, &rows[from..to], number as u64)?)?;
+        batches.push(rows_to_batch(alloc, types, &rows[from..to], number as u64)?)?;
     }
     Ok(batches)
 }
 
-/// The rows as one batch.
-fn batch_of(
+/// The rows as one batch of these types, with this number. Each row fits the types.
+pub fn rows_to_batch(
     alloc: Global,
     types: &[Ty],
     rows: &[Items<Value>],
@@ -47,6 +47,7 @@ fn batch_of(
     requires fit { All (Fits types.now) rows.now }
     ensures rows { IfOk result (λ batch. rows_of batch ≡ rows.now) }
     ensures types { IfOk result (λ batch. types_of batch ≡ types.now) }
+    ensures number { IfOk result (λ batch. batch.number ≡ number) }
 {
     let mut columns = Vec::new(alloc);
     for index in 0..types.len() {

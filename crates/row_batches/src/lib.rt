@@ -3,4 +3,4 @@
 
 mod batches;
 
-pub use batches::rows_to_batches;
+pub use batches::{rows_to_batch, rows_to_batches};

@@ -1,5 +1,5 @@
 -- Columns that get other types of the same kinds.
-use Rattle.std.proofs.Common.{◌≡◌, ◌∙◌, ℕ, suc, ◌+◌, ◌-◌, ◌<◌, List, [], ◌∷◌, ◌++◌, Some, length, map, take, drop, get_or, slice_get, sym, ap, ap₂, subst, arith, append_assoc, append-nil}
+use Rattle.std.proofs.Common.{◌≡◌, ◌∙◌, ℕ, suc, ◌+◌, ◌-◌, ◌<◌, ◌≤◌, List, [], ◌∷◌, ◌++◌, Some, length, map, take, drop, get_or, slice_get, sym, ap, ap₂, subst, arith, append_assoc, append-nil}
 use Rattle.std.specs.List.{All, flat_map}
 use Rattle.std.proofs.Math.ListN.{get_or-map}
 use Rattle.std.proofs.lemmas.Option.{get_or_from_slice_get}
@@ -110,3 +110,8 @@ pub types_back : (types : List Ty) (pieces : List Piece) (runs : List Batch) →
 types_back types pieces runs e all = λ k d below.
     let many : length pieces ≡ length runs = sym (length-map pieces (λ (piece : Piece). piece.batch)) ∙ ap length e in
     ap types_of (sym (get_or-map (λ (piece : Piece). piece.batch) pieces k d) ∙ ap (λ l. get_or l k d.batch) e) ∙ all k d.batch (omega arith)
+
+pub few_back : (pieces : List Piece) (runs : List Batch) → map (λ (piece : Piece). piece.batch) pieces ≡ runs → All (λ (run : Batch). run.rows ≤ 65536) runs → All (λ (piece : Piece). piece.batch.rows ≤ 65536) pieces
+few_back pieces runs e all = λ k d below.
+    let many : length pieces ≡ length runs = sym (length-map pieces (λ (piece : Piece). piece.batch)) ∙ ap length e in
+    subst (λ (run : Batch). run.rows ≤ 65536) (sym (sym (get_or-map (λ (piece : Piece). piece.batch) pieces k d) ∙ ap (λ l. get_or l k d.batch) e)) (all k d.batch (omega arith))

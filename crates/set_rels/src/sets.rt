@@ -1,5 +1,5 @@
 // Set operations over whole inputs.
-ghost use Rattle.std.specs.Prelude.{◌≡◌, ◌≢◌, ◌<◌, None, Some, List, map, length, All, IfOk};
+ghost use Rattle.std.specs.Prelude.{◌≡◌, ◌≢◌, ◌<◌, ◌≤◌, None, Some, List, map, length, All, IfOk};
 ghost use Rattle.std.specs.List.{flat_map};
 ghost use Rattle.sub_types.specs.Kind.{IsKind};
 ghost use Rattle.sub_types.specs.Stream.{rows_alone, ended};
@@ -34,6 +34,7 @@ pub fn set_op(
     requires alike { All (λ input. All (λ piece. HasKinds types.now piece.batch) input.items) inputs.items }
     ensures rows { IfOk result (λ pieces. stream_of pieces.items ≡ spec.set_rows op (map (λ input. stream_of input.items) inputs.items)) }
     ensures types { IfOk result (λ pieces. All (λ piece. types_of piece.batch ≡ types.now) pieces.items) }
+    ensures few { (op ≢ ops.UnionAll) → IfOk result (λ pieces. All (λ piece. piece.batch.rows ≤ 65536) pieces.items) }
 {
     match op {
         SetOp::UnionAll => typed_pieces(alloc, types, inputs),
@@ -69,6 +70,7 @@ fn whole_rows(
     requires alike { All (λ input. All (λ piece. HasKinds types.now piece.batch) input.items) inputs.items }
     ensures rows { (op ≢ ops.UnionAll) → IfOk result (λ pieces. stream_of pieces.items ≡ unless_fault (spec.first_fault (map (λ input. stream_of input.items) inputs.items)) (rows_alone (spec.set_in op (map (λ input. (stream_of input.items).rows) inputs.items)))) }
     ensures types { IfOk result (λ pieces. All (λ piece. types_of piece.batch ≡ types.now) pieces.items) }
+    ensures few { IfOk result (λ pieces. All (λ piece. piece.batch.rows ≤ 65536) pieces.items) }
 {
     if let Some(fault) = first_fault(&inputs) {
         return fault_alone(alloc, types, fault);
@@ -85,6 +87,7 @@ fn fault_alone(alloc: Global, types: &[Ty], fault: Fault) -> Result<Vec<Piece>, 
     requires { All (λ ty. IsKind ty.kind) types.now }
     ensures rows { IfOk result (λ pieces. stream_of pieces.items ≡ ended (Some fault)) }
     ensures types { IfOk result (λ pieces. All (λ piece. types_of piece.batch ≡ types.now) pieces.items) }
+    ensures few { IfOk result (λ pieces. All (λ piece. piece.batch.rows ≤ 65536) pieces.items) }
 {
     let mut pieces = Vec::new(alloc);
     pieces.push(Piece {
@@ -106,6 +109,7 @@ fn taken_batches(
     requires ends { AreEnds 0 ends.now (length (all_rows runs.items)) }
     ensures rows { (inputs : List (List Row)) → (op ≢ ops.UnionAll) → all_rows runs.items ≡ flat_map (λ rows. rows) inputs → ends.now ≡ ends_from 0 inputs → IfOk result (λ batches. all_rows batches.items ≡ spec.set_in op inputs) }
     ensures types { IfOk result (λ batches. All (λ batch. types_of batch ≡ types.now) batches.items) }
+    ensures few { IfOk result (λ batches. All (λ batch. batch.rows ≤ 65536) batches.items) }
 {
     let keyed = KeyedRows::of(alloc, runs, types.len())?;
     let chains = Chains::build(alloc, keyed)?;

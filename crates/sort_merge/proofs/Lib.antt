@@ -1,4 +1,5 @@
 pub mod ArrangedLaws
 pub mod OrderLaws
 pub mod PlaceLaws
+pub mod PrefixLaws
 pub mod RowLaws

@@ -1,9 +1,10 @@
 -- Rows of several batches in order, by their places.
-use Rattle.std.proofs.Common.{◌≡◌, ◌∙◌, List, [], ◌∷◌, true, false, ◌&&◌, Some, None, refl, slice_get, map, sym, ap}
-use Rattle.std.specs.List.{flat_map}
+use Rattle.std.proofs.Common.{◌≡◌, ◌∙◌, ◌<◌, List, [], ◌∷◌, true, false, ◌&&◌, Some, None, refl, slice_get, length, map, sym, ap, arith}
+use Rattle.std.specs.List.{All, flat_map}
 use Rattle.std.proofs.lemmas.List.Elements.{All-from_recursion, recursion_from_All}
 use Rattle.sub_types.specs.Stream.{rows_alone}
-use Rattle.batch.specs.BatchRows.{rows_of}
+use Rattle.batch.specs.BatchRows.{rows_of, types_of}
+use Rattle.batch.proofs.JoinLaws.{length-columns}
 use Rattle.plan_denote.specs.Rows.{Row}
 use Rattle.plan_denote.specs.Sort.{IsArrangement}
 use Rattle.plan_pipes.specs.RowMeaning.{sorted_by}
@@ -12,7 +13,7 @@ use Rattle.std.specs.declared.cmp.Ordering.{Ordering}
 use Rattle.batch.specs.declared.batch.Batch.{Batch}
 use Rattle.batch_places.specs.declared.places.Place.{Place}
 use Rattle.batch_places.specs.BatchRow.{row_at}
-use Rattle.batch_places.specs.Places.{is_there, row_there, AreThere}
+use Rattle.batch_places.specs.Places.{is_there, row_there, AreThere, first_types}
 use Rattle.batch_places.proofs.PlaceLaws.{no_row_there, row_within, row_is}
 use Rattle.plan_denote.specs.Sort.{key_cmp}
 use Rattle.rel_specs.specs.declared.key_order.KeyOrder.{KeyOrder}
@@ -58,3 +59,19 @@ no_first (run ∷ runs) e = absurd (cc)
 pub none_sorted : (keys : List KeyOrder) (rows given : List Row) → rows ≡ [] → given ≡ [] → rows_alone given ≡ sorted_by keys (rows_alone rows)
 none_sorted keys rows given none no_given =
     ap rows_alone (no_given ∙ sym (in_order_is keys [])) ∙ sym (sorted_is keys []) ∙ ap (λ all. sorted_by keys (rows_alone all)) (sym none)
+
+heads : {x y : Batch} → Some x ≡ Some y → x ≡ y
+heads same = cc
+
+-- the types and the columns of the first run are those of all
+pub first_types_are : (runs : List Batch) (first : Batch) → Some first ≡ slice_get runs 0 → first_types runs ≡ types_of first
+first_types_are [] first e = absurd (cc)
+first_types_are (run ∷ runs) first e = ap types_of (sym (heads e))
+
+pub columns_of_whole : (keys : List KeyOrder) (runs : List Batch) (first whole : Batch) → Some first ≡ slice_get runs 0 → All (λ (run : Batch). All (λ (key : KeyOrder). key.column < length run.columns.items) keys) runs → types_of whole ≡ types_of first
+    → All (λ (key : KeyOrder). key.column < length whole.columns.items) keys
+columns_of_whole keys [] first whole e all same = absurd (cc)
+columns_of_whole keys (run ∷ runs) first whole e all same = λ k d below.
+    let here = all 0 run (omega arith) k d below in
+    let wide : length whole.columns.items ≡ length run.columns.items = length-columns whole (types_of run) (same ∙ ap types_of (heads e)) ∙ sym (length-columns run (types_of run) refl) in
+    omega arith

@@ -3,6 +3,8 @@
 //! order.
 #![tactic(auto)]
 
+mod order;
+mod prefixes;
 mod run_laws;
 mod runs;
 mod sort;

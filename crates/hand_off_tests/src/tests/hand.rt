@@ -95,7 +95,9 @@ fn hands_back<H: Wait>(rt: &H, alloc: Global) -> Result<bool, NoMemory> {
     let second = offer_next(rt, &claims, &mut seat, &hand, &mut pass);
     let taken = take_next(rt, &hand, &mut pass);
     let none = take_next(rt, &hand, &mut pass);
-    Ok([first, second, taken, none] == [100, 1, 0, 100])
+    give_back(&hand, &mut passes, pass)?;
+    let left = numbers_left(rt, alloc, hand.finish(rt, passes))?;
+    Ok([first, second, taken, none] == [100, 1, 0, 100] && left.is_empty())
 }
 
 #[test]

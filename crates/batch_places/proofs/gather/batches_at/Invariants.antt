@@ -1,4 +1,4 @@
-use Rattle.std.proofs.Common.{◌≡◌, ◌++◌, map, All}
+use Rattle.std.proofs.Common.{◌≡◌, ◌≤◌, ◌++◌, map, All}
 use Rattle.std.specs.List.{flat_map}
 use Rattle.std.specs.Slice.Iter.{chunks_rest, chunks_size}
 use Rattle.batch.specs.BatchRows.{rows_of, types_of}
@@ -12,6 +12,8 @@ invariant-loop-part l = record {
   ends : goal.iterator-loop-part.is_finite l.part-iterator;
   rows : flat_map rows_of l.batches.items ++ map (row_there l.runs) (chunks_rest l.part-iterator) ≡ map (row_there l.fn.runs) l.fn.places;
   types : All (λ batch. types_of batch ≡ types_of l.fn.first) l.batches.items;
+  few : All (λ batch. batch.rows ≤ 65536) l.batches.items;
+  number : All (λ batch. batch.number ≡ 0) l.batches.items;
   there : AreThere l.runs (chunks_rest l.part-iterator);
   size : chunks_size l.part-iterator ≡ 65536;
 }

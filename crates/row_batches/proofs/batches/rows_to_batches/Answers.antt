@@ -10,8 +10,8 @@ loop-number-init c = rw c.new-batches.ensures.items (MadeBatches-none c.args.typ
 
 pub loop-number-preserved : goal.loop-number-preserved
 loop-number-preserved c =
-    let batch = c.in_ok-batch_of.field-0 in
-    let clauses = c.in_ok-batch_of.ensures in
+    let batch = c.in_ok-rows_to_batch.field-0 in
+    let clauses = c.in_ok-rows_to_batch.ensures in
     let rows = c.args.rows.now in
     let from = c.loop-number.number * PART_ROWS in
     let cut : c.min-to.result ≡ min (length rows) (from + PART_ROWS) = omega (arith, c.min-to.ensures) in

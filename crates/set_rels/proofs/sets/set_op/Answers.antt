@@ -19,6 +19,9 @@ returns-in-UnionAll-clause-rows c =
     IfOk-weaker c.typed_pieces.result (λ pieces. map stream_of_piece pieces.items ≡ flat_map (λ input. map stream_of_piece (pieces_in input)) inputs) (λ pieces. stream_of pieces.items ≡ set_rows c.args.op (map (λ input. stream_of (pieces_in input)) inputs)) (λ pieces e.
     all_of pieces_in inputs pieces.items e ∙ sym (ap (λ op. set_rows op (map (λ input. stream_of (pieces_in input)) inputs)) c.in-UnionAll.is)) c.typed_pieces.ensures.streams
 
+pub returns-in-UnionAll-clause-few : goal.returns-in-UnionAll-clause-few
+returns-in-UnionAll-clause-few c = λ other. absurd (other (c.in-UnionAll.is))
+
 pub returns-in_default : goal.returns-in_default
 returns-in_default c =
     let op = c.args.op in
@@ -28,4 +31,5 @@ returns-in_default c =
           IfOk-weaker c.whole_rows.result (λ pieces. stream_of pieces.items ≡ unless_fault (first_fault (map (λ input. stream_of (pieces_in input)) inputs)) (rows_alone (set_in op (map (λ input. (stream_of (pieces_in input)).rows) inputs)))) (λ pieces. stream_of pieces.items ≡ set_rows op (map (λ input. stream_of (pieces_in input)) inputs)) (λ pieces e.
           of_inputs op pieces_in inputs (stream_of pieces.items) c.in_default.not-UnionAll e) (c.whole_rows.ensures.rows c.in_default.not-UnionAll);
       types = c.whole_rows.ensures.types;
+      few = λ _. c.whole_rows.ensures.few;
     }

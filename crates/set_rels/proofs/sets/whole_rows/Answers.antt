@@ -1,4 +1,4 @@
-use Rattle.std.proofs.Common.{Vec, Global, ◌≡◌, ◌∙◌, List, None, All, map, length, ap, sym, arith}
+use Rattle.std.proofs.Common.{Vec, Global, ◌≡◌, ◌∙◌, ◌≤◌, List, None, All, map, length, ap, sym, arith}
 use Rattle.std.specs.List.{flat_map}
 use Rattle.std.proofs.lemmas.Result.{IfOk-weaker}
 use Rattle.sub_types.specs.Stream.{rows_alone}
@@ -12,7 +12,7 @@ use Rattle.set_rels.specs.Inputs.{stream_of, rows_in}
 use Rattle.set_rels.specs.Keyed.{all_rows}
 use Rattle.set_rels.proofs.PieceLaws.{rows_of_runs, rows_are, stream_of_batches, IfOk-both}
 use Rattle.set_rels.proofs.TakenLaws.{ends_are}
-use Rattle.set_rels.proofs.TypedLaws.{types_in, types_back}
+use Rattle.set_rels.proofs.TypedLaws.{types_in, types_back, few_back}
 use Rattle.set_rels.proofs.sets.whole_rows.Goals as goal
 
 abbrev pieces_in : Vec Piece Global → List Piece
@@ -52,3 +52,9 @@ returns-clause-types c =
     let batches = c.in_ok-batches.batches.items in
     IfOk-weaker c.pieces_of.result (λ pieces. map batch_in pieces.items ≡ batches) (λ pieces. All (λ (piece : Piece). types_of piece.batch ≡ c.args.types.now) pieces.items) (λ pieces are.
     types_back c.args.types.now pieces.items batches are c.in_ok-batches.ensures.types) c.pieces_of.ensures.batches
+
+pub returns-clause-few : goal.returns-clause-few
+returns-clause-few c =
+    let batches = c.in_ok-batches.batches.items in
+    IfOk-weaker c.pieces_of.result (λ pieces. map batch_in pieces.items ≡ batches) (λ pieces. All (λ (piece : Piece). piece.batch.rows ≤ 65536) pieces.items) (λ pieces are.
+    few_back pieces.items batches are c.in_ok-batches.ensures.few) c.pieces_of.ensures.batches

@@ -1,0 +1,3 @@
+pub mod FoldLaws
+pub mod FinalLaws
+pub mod TypeLaws

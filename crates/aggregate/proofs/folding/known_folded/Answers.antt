@@ -1,0 +1,26 @@
+use Rattle.std.proofs.Common.{subst}
+use Rattle.batch.specs.BatchRows.{stream_of_piece}
+use Rattle.aggregate.specs.Folding.{IsRead}
+use Rattle.aggregate.specs.States.{entries_by}
+use Rattle.aggregate.proofs.FoldLaws.{known_ends}
+use Rattle.aggregate.proofs.folding.known_folded.Goals as goal
+
+pub with_inputs-requires-clause-columns : goal.with_inputs-requires-clause-columns
+with_inputs-requires-clause-columns c = (subst (IsRead c.args.spec.now (stream_of_piece c.args.input.now)) c.in-Ok.is c.in_ok-found.ensures).1.columns
+
+pub with_inputs-requires-clause-all : goal.with_inputs-requires-clause-all
+with_inputs-requires-clause-all c = (subst (IsRead c.args.spec.now (stream_of_piece c.args.input.now)) c.in-Ok.is c.in_ok-found.ensures).1.all
+
+pub with_inputs-requires-clause-whole : goal.with_inputs-requires-clause-whole
+with_inputs-requires-clause-whole c = (subst (IsRead c.args.spec.now (stream_of_piece c.args.input.now)) c.in-Ok.is c.in_ok-found.ensures).1.whole
+
+pub returns-in_ok-next-in-Ok-clause-together : goal.returns-in_ok-next-in-Ok-clause-together
+returns-in_ok-next-in-Ok-clause-together c =
+    let input = stream_of_piece c.args.input.now in
+    let read = subst (IsRead c.args.spec.now input) c.in-Ok.is c.in_ok-found.ensures in
+    λ s h. c.in_ok-next-in-Ok.ensures.holds s (entries_by c.args.spec.now input) h read.0 read.1
+
+pub returns-in-Err-clause-together : goal.returns-in-Err-clause-together
+returns-in-Err-clause-together c =
+    let input = stream_of_piece c.args.input.now in
+    known_ends c.args.spec.now c.args.groups (entries_by c.args.spec.now input) c.in-Err.fault (subst (IsRead c.args.spec.now input) c.in-Err.is c.in_ok-found.ensures)

@@ -1,0 +1,3 @@
+// What each reader has read, and which failure decides.
+
+mod blocks;

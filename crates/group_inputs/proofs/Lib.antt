@@ -1,0 +1,4 @@
+pub mod UntilLaws
+pub mod ChosenLaws
+pub mod EachLaws
+pub mod InputLaws

@@ -1,0 +1,3 @@
+pub mod Before
+pub mod Taking
+pub mod Inputs

@@ -1,0 +1,9 @@
+mod ReadLaws
+mod StepLaws
+mod PassLaws
+mod JoinedLaws
+mod ArmLaws
+mod TailLaws
+mod WholeLaws
+mod FinishLaws
+mod InputLaws

@@ -1,0 +1,6 @@
+use Rattle.std.proofs.Common.{◌≡◌, ◌++◌, take}
+use Rattle.pipe_steps.proofs.stored_types.add.Given as goal
+
+-- the first so many columns stand behind those that were there
+abbrev pub invariant-loop-column : goal.invariant-loop-column
+invariant-loop-column l = l.columns.items ≡ l.initial.columns.items ++ take l.column-index l.more

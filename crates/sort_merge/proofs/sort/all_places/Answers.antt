@@ -1,5 +1,0 @@
-use Rattle.sort_merge.proofs.RowLaws.{places_more}
-use Rattle.sort_merge.proofs.sort.all_places.Goals as goal
-
-pub loop-place-preserved : goal.loop-place-preserved
-loop-place-preserved c = places_more c.loop-place.place c.loop-place.places.items c.push.new.self.items c.in_ok-push.ensures.items c.loop-place.invariant

@@ -1,0 +1,78 @@
+// The places of a batch's rows in order.
+ghost use Rattle.std.specs.Prelude.{◌≡◌, ◌<◌, length, map, All, IfOk, OnOk};
+ghost use Rattle.std.specs.List.{range_with_len};
+ghost use Rattle.plan_denote.specs.Sort.{IsArrangement};
+ghost use Rattle.batch_places.specs.BatchRow.{has_row, row_at};
+ghost use Rattle.sort_merge.specs.Prefix as spec;
+ghost use Rattle.sort_merge.specs.RowOrder.{place_cmp};
+
+use crate::prefixes::{prefix_of, prefixed_rows, row_of};
+use batch::Batch;
+use rel_specs::KeyOrder;
+use row_keys::compare_keys;
+use std::alloc::Global;
+use std::cmp::Ordering;
+use sub_types::NoMemory;
+
+/// The places of a batch's rows in order of these columns.
+pub(crate) fn ordered_places(
+    alloc: Global,
+    keys: &[KeyOrder],
+    batch: &Batch,
+) -> Result<Vec<u64>, NoMemory>
+    requires columns { All (λ key. key.column < length batch.now.columns.items) keys.now }
+    ensures arrangement { IfOk result (λ places. IsArrangement (place_cmp keys.now (has_row batch.now) (row_at batch.now)) (range_with_len 0 batch.now.rows) places.items) }
+    ensures count { IfOk result (λ places. length places.items ≡ batch.now.rows) }
+{
+    // A batch has fewer than 2^64 rows.
+    let _rows = batch.rows;
+    let mut rows = prefixed_rows(alloc, keys, batch)?;
+    put_in_order(keys, batch, &mut rows)?;
+    places_of(alloc, &rows)
+}
+
+// The places of rows.
+fn places_of(alloc: Global, rows: &[u128]) -> Result<Vec<u64>, NoMemory>
+    ensures { IfOk result (λ places. places.items ≡ map spec.row_of rows.now) }
+{
+    let mut places = Vec::with_capacity(alloc, rows.len())?;
+    for one in rows {
+        places.push(row_of(*one))?;
+    }
+    Ok(places)
+}
+
+// Puts rows in order.
+fn put_in_order(keys: &[KeyOrder], batch: &Batch, rows: &mut Vec<u128>) -> Result<(), NoMemory>
+    requires columns { All (λ key. key.column < length batch.now.columns.items) keys.now }
+    ensures arrangement { OnOk result (IsArrangement (spec.prefixed_cmp keys.now (has_row batch.now) (row_at batch.now)) rows.old.items rows.new.items) }
+    ensures count { length rows.new.items ≡ length rows.old.items }
+{
+    rows.sort_by(|a, b| compare_rows(keys, batch, *a, *b))?;
+    Ok(())
+}
+
+// Two rows by their prefixes, and where these are equal by their keys.
+fn compare_rows(keys: &[KeyOrder], batch: &Batch, a: u128, b: u128) -> Ordering
+    requires columns { All (λ key. key.column < length batch.now.columns.items) keys.now }
+    ensures { result ≡ spec.prefixed_cmp keys.now (has_row batch.now) (row_at batch.now) a b }
+{
+    let by_prefix = prefix_of(a).cmp(&prefix_of(b));
+    if by_prefix != Ordering::Equal {
+        return by_prefix;
+    }
+    compare_places(keys, batch, row_of(a), row_of(b))
+}
+
+// Two places by the rows there.
+fn compare_places(keys: &[KeyOrder], batch: &Batch, a: u64, b: u64) -> Ordering
+    requires columns { All (λ key. key.column < length batch.now.columns.items) keys.now }
+    ensures { result ≡ place_cmp keys.now (has_row batch.now) (row_at batch.now) a b }
+{
+    let first = a < batch.rows;
+    let second = b < batch.rows;
+    if first && second {
+        return compare_keys(batch, a, batch, b, keys);
+    }
+    first.cmp(&second)
+}
