@@ -6,4 +6,4 @@ mod tables;
 
 pub use row_steps::{RowStream, Stream};
 pub use run::run_rows;
-pub use tables::Table;
+pub use tables::{Table, table_rows};
