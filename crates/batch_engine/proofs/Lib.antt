@@ -1,0 +1,6 @@
+mod KeptLaws
+mod PieceLaws
+mod FeedLaws
+mod RunLaws
+mod EndLaws
+mod PipeLaws

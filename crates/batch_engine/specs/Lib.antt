@@ -1,0 +1,4 @@
+pub mod Inputs
+pub mod Kept
+pub mod Stands
+pub mod Ready
