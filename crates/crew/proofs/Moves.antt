@@ -1,6 +1,8 @@
 -- Elements that go from the end of one list to the end of another.
-use Rattle.std.proofs.Common.{◌≡◌, ℕ, suc, ◌<◌, List, [], ◌∷◌, ◌++◌, length, map, reverse, refl, sym, ap, ◌∙◌, append_assoc, get_or, arith}
-use Rattle.std.proofs.lemmas.List.{reverse-append, map_push}
+use Rattle.std.proofs.Common.{◌≡◌, ℕ, suc, ◌+◌, ◌<◌, List, [], ◌∷◌, ◌++◌, length, map, reverse, refl, sym, ap, ◌∙◌, append_assoc, get_or, arith}
+use Rattle.std.specs.List.{range_with_len}
+use Rattle.std.proofs.lemmas.List.{reverse-append, map_push, map-id, length-append}
+use Rattle.std.proofs.lemmas.List.FromFn.{map-range_with_len_more}
 
 pub reverse_push : {X : Type 0} (xs : List X) (x : X) → reverse (xs ++ x ∷ []) ≡ x ∷ reverse xs
 reverse_push xs x = reverse-append xs (x ∷ [])
@@ -29,3 +31,12 @@ same_maps f [] (y ∷ ys) len same = absurd (omega (arith, len))
 same_maps f (x ∷ xs) [] len same = absurd (omega (arith, len))
 same_maps f (x ∷ xs) (y ∷ ys) len same =
     λ i. same 0 x (omega arith) i ∷ same_maps f xs ys (omega (arith, len)) (λ k d below. same (suc k) d (omega (arith, below))) i
+
+-- elements with the numbers from 0 on, with one more behind them
+pub numbered : {W : Type 0} (number : W → ℕ) (done done' : List W) (w : W) → map number done ≡ range_with_len 0 (length done) → done' ≡ done ++ w ∷ [] → number w ≡ length done → map number done' ≡ range_with_len 0 (length done')
+numbered number done done' w so_far d here =
+    let from : 0 + length done ≡ length done = omega arith in
+    let more = sym (map-id (range_with_len 0 (length done + 1))) ∙ map-range_with_len_more (λ (x : ℕ). x) 0 (length done) (length done) from ∙ ap (λ xs. xs ++ length done ∷ []) (map-id (range_with_len 0 (length done))) in
+    ap (map number) d ∙ map_push number done w
+    ∙ ap (λ (q : List ℕ × ℕ). q.0 ++ q.1 ∷ []) (λ i. (so_far i, here i))
+    ∙ sym (ap (λ xs. range_with_len 0 (length xs)) d ∙ ap (range_with_len 0) (length-append done (w ∷ [])) ∙ more)

@@ -1,5 +1,6 @@
 // Workers made of their parts, and taken apart again.
 ghost use Rattle.std.specs.Prelude.{◌≡◌, ◌+◌, ◌≤◌, ◌<◌, ◌++◌, ◌∷◌, [], ℕ, true, false, All, Option, IsSome, length, map, reverse, vec_len, IfOk};
+ghost use Rattle.std.specs.List.{range_with_len};
 ghost use Rattle.std.specs.Vec.{vec_capacity};
 ghost use Rattle.run_core.specs.Receipts.{lists_of};
 ghost use Rattle.crew.specs.Labours.{labour_view, IsFresh};
@@ -39,7 +40,8 @@ impl<T: Numbered> Parts<T> {
     }
 }
 
-/// One worker for each seat, pass and labour, from the last to the first. `room` has a place for each of them.
+/// One worker for each seat, pass and labour, from the last to the first, numbered from 0 on. `room` has a place for
+/// each of them.
 pub fn workers_of<T: Numbered, L: Labour<T>>(
     claims: &Claims,
     hand: &HandOff<T>,
@@ -57,6 +59,7 @@ pub fn workers_of<T: Numbered, L: Labour<T>>(
     requires fresh { All (IsFresh (λ l. labour_view (L.about l) (L.loaded l) (L.results l) (L.failures l))) labours.old.items }
     ensures emptied { (labours.new.items ≡ []) × (vec_capacity labours.new ≡ vec_capacity labours.old) }
     ensures moved { reverse (map (λ w. w.labour) result.items) ≡ labours.old.items }
+    ensures numbers { map (λ w. w.number) result.items ≡ range_with_len 0 (vec_len labours.old) }
     ensures ready { All (IsReady (λ l. labour_view (L.about l) (L.loaded l) (L.results l) (L.failures l)) claims.now hand.now) result.items }
 {
     let mut workers = room;

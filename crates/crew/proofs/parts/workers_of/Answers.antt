@@ -5,7 +5,7 @@ use Rattle.hand_off.proofs.Popping.{popped_all, pushed_all}
 use Rattle.crew.specs.Labours.{labour_view, IsFresh}
 use Rattle.crew.specs.Workers.{IsReady}
 use Rattle.crew.specs.declared.worker.Worker.{Worker}
-use Rattle.crew.proofs.Moves.{made}
+use Rattle.crew.proofs.Moves.{made, numbered}
 use Rattle.crew.proofs.parts.workers_of.Goals as goal
 
 pub loop-labour-preserved : goal.loop-labour-preserved
@@ -31,6 +31,8 @@ loop-labour-preserved g c =
       passes_of = passes_of.0;
       passes = passes.0;
       fresh = fresh.0;
+      all = omega (arith, o.cases, i.all, c.push_reserved.ensures.len);
+      numbers = numbered (λ (w : Worker g.row.T.Denot g.row.L.Denot). w.number) _ _ _ i.numbers c.push_reserved.ensures.items (omega (arith, c.len-number.ensures, c.loop-labour.workers.ok.0));
       moved = made (λ (w : Worker g.row.T.Denot g.row.L.Denot). w.labour) _ _ _ _ _ c.in-Some.labour _ o.items c.push_reserved.ensures.items refl i.moved;
       ready = pushed_all (IsReady see c.args.claims.now c.args.hand.now) _ _ _ c.push_reserved.ensures.items i.ready
           record {

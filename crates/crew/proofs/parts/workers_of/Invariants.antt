@@ -1,4 +1,5 @@
-use Rattle.std.proofs.Common.{◌≡◌, ◌+◌, ◌≤◌, ◌++◌, [], false, All, map, reverse, vec_len}
+use Rattle.std.proofs.Common.{◌≡◌, ◌+◌, ◌≤◌, ◌++◌, [], false, All, length, map, reverse, vec_len}
+use Rattle.std.specs.List.{range_with_len}
 use Rattle.std.specs.Vec.{vec_capacity}
 use Rattle.crew.specs.Labours.{labour_view, IsFresh}
 use Rattle.crew.specs.Workers.{IsReady}
@@ -16,6 +17,8 @@ invariant-loop-labour g l = record {
   passes_of : All (λ p. p.of ≡ l.hand) l.passes.items;
   passes : All (λ p. (p.offered ≡ []) × (p.taken ≡ []) × (p.share ≡ 1)) l.passes.items;
   fresh : All (IsFresh (λ o. labour_view (g.L.Labour.about o) (g.L.Labour.loaded o) (g.L.Labour.results o) (g.L.Labour.failures o))) l.labours.items;
+  all : vec_len l.workers + vec_len l.labours ≡ vec_len l.fn.labours;
+  numbers : map (λ w. w.number) l.workers.items ≡ range_with_len 0 (length l.workers.items);
   moved : l.labours.items ++ reverse (map (λ w. w.labour) l.workers.items) ≡ l.fn.labours.items;
   ready : All (IsReady (λ o. labour_view (g.L.Labour.about o) (g.L.Labour.loaded o) (g.L.Labour.results o) (g.L.Labour.failures o)) l.claims l.hand) l.workers.items;
 }

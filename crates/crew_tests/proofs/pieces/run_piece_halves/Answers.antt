@@ -1,4 +1,4 @@
-use Rattle.std.proofs.Common.{◌≡◌, ◌/◌, ℕ, get_or, ap, sym, ◌∙◌}
+use Rattle.std.proofs.Common.{◌/◌, ℕ, get_or, ap, sym, ◌∙◌}
 use Rattle.crew_tests.proofs.HalfLaws.{half_at}
 use Rattle.crew_tests.proofs.pieces.run_piece_halves.Goals as goal
 
