@@ -1,4 +1,4 @@
-use Rattle.std.proofs.Common.{rules, ◌≡◌, ◌∙◌, ℕ, Bool, is_lt, arith}
+use Rattle.std.proofs.Common.{rules, ◌∙◌, ℕ, Bool, is_lt, arith}
 use Rattle.std.proofs.lemmas.List.Sorted.{ranks_by}
 use Rattle.std.proofs.lemmas.Fn.{always_returns_same}
 use Rattle.batch_places.specs.BatchRow.{has_row, row_at}
