@@ -1,3 +1,4 @@
 pub mod GatherLaws
+pub mod PartLaws
 pub mod PlaceLaws
 pub mod ValueLaws

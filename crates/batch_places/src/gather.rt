@@ -1,6 +1,7 @@
 // Batches of the rows at places.
 ghost use Rattle.std.specs.Prelude.{◌≡◌, ◌++◌, ◌∷◌, [], ◌<◌, ◌≤◌, Some, length, map, slice_get, slice_index_or, All, IfOk, OnOk};
 ghost use Rattle.std.specs.List.{flat_map};
+ghost use Rattle.sub_types.specs.Rows.{picked};
 ghost use Rattle.sub_types.specs.declared.value.Value.TheVariants.{Null};
 ghost use Rattle.batch.specs.BatchRows.{rows_of, types_of};
 ghost use Rattle.batch.specs.Column.{column_values};
@@ -103,4 +104,19 @@ fn add_value(
     let from = row as usize;
     builder.append(column, from, from + 1)?;
     Ok(())
+}
+
+/// The rows of one batch at places, in batches of up to 65,536 rows that have its number. No places give no batches.
+pub fn gather_in_parts(alloc: Global, whole: &Batch, places: &[u64]) -> Result<Vec<Batch>, NoMemory>
+    requires { All (λ place. place < whole.now.rows) places.now }
+    ensures rows { IfOk result (λ batches. flat_map rows_of batches.items ≡ picked [] places.now (rows_of whole.now)) }
+    ensures types { IfOk result (λ batches. All (λ batch. types_of batch ≡ types_of whole.now) batches.items) }
+    ensures few { IfOk result (λ batches. All (λ batch. batch.rows ≤ 65536) batches.items) }
+    ensures number { IfOk result (λ batches. All (λ batch. batch.number ≡ whole.now.number) batches.items) }
+{
+    let mut batches = Vec::new(alloc);
+    for part in places.chunks(BATCH_ROWS) {
+        batches.push(whole.gather(alloc, part)?)?;
+    }
+    Ok(batches)
 }

@@ -120,6 +120,13 @@ row_found runs places row place run there placed below at run_at =
       ap (λ rows. get_or rows row []) (sym placed) ∙ get_or-map (row_there runs) places row place [] below ∙ ap (row_there runs) (sym at) ∙ row_is runs place run is,
     )
 
+-- the hashes of one batch are the numbers of its rows
+pub one_numbers : (numbering : Numbering) (seed : ℕ) (columns : List ℕ) (batch : Batch) (numbers : List ℕ) → columns ≡ range_with_len 0 (length batch.columns.items) → ((row : Row) → key_hash seed row ≡ number_by numbering row)
+    → numbers ≡ map (λ row. key_hash seed (key_of columns batch row)) (range_with_len 0 batch.rows) → numbers ≡ map (λ row. number_by numbering (row_at (rows_of batch) row)) (range_with_len 0 batch.rows)
+one_numbers numbering seed columns batch numbers all numbered is =
+    is ∙ map_in (λ row. key_hash seed (key_of columns batch row)) (λ row. number_by numbering (row_at (rows_of batch) row)) batch.rows 0 (λ row low high.
+    ap (key_hash seed) (key_is columns batch row all (omega arith)) ∙ numbered (row_at (rows_of batch) row))
+
 -- one column more
 pub columns_more : (n : ℕ) (old new : List ℕ) → new ≡ old ++ n ∷ [] → old ≡ range_with_len 0 n → new ≡ range_with_len 0 (n + 1)
 columns_more n old new pushed so_far = pushed ∙ ap (λ l. l ++ n ∷ []) so_far ∙ sym (range-split n 0 1 (n + 1) n refl (omega arith))

@@ -3,6 +3,7 @@
 #![tactic(auto)]
 
 mod keyed_rows;
+mod one_batch;
 mod pieces;
 mod sets;
 mod typed;

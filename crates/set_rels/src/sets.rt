@@ -12,9 +12,11 @@ ghost use Rattle.set_rels.specs.Inputs.{stream_of, HasKinds, first_end, other_en
 ghost use Rattle.set_rels.specs.Keyed.{all_rows};
 
 use crate::keyed_rows::KeyedRows;
+use crate::one_batch::OneBatch;
 use crate::pieces::{batches_of, ends_of, first_fault, pieces_of};
 use crate::typed::push_typed;
 use batch::{Batch, Piece, join_batches};
+use batch_places::{are_few, gather_in_parts};
 use hash_chains::Chains;
 use plan_typed::SetOp;
 use set_places::taken_rows;
@@ -97,8 +99,51 @@ fn fault_alone(alloc: Global, types: &[Ty], fault: Fault) -> Result<Vec<Piece>, 
     Ok(pieces)
 }
 
-// The rows of an operation over the rows of all inputs, which end there.
+// The rows of an operation over the rows of all inputs, which end there. Where they are few enough they are joined first.
 fn taken_batches(
+    alloc: Global,
+    op: SetOp,
+    types: &[Ty],
+    runs: Vec<Batch>,
+    ends: &[u64],
+) -> Result<Vec<Batch>, NoMemory>
+    requires kinds { All (λ ty. IsKind ty.kind) types.now }
+    requires types { All (λ run. types_of run ≡ types.now) runs.items }
+    requires ends { AreEnds 0 ends.now (length (all_rows runs.items)) }
+    ensures rows { (inputs : List (List Row)) → (op ≢ ops.UnionAll) → all_rows runs.items ≡ flat_map (λ rows. rows) inputs → ends.now ≡ ends_from 0 inputs → IfOk result (λ batches. all_rows batches.items ≡ spec.set_in op inputs) }
+    ensures types { IfOk result (λ batches. All (λ batch. types_of batch ≡ types.now) batches.items) }
+    ensures few { IfOk result (λ batches. All (λ batch. batch.rows ≤ 65536) batches.items) }
+{
+    if !are_few(&runs) {
+        return taken_of_runs(alloc, op, types, runs, ends);
+    }
+    let whole = join_batches(alloc, types, &runs)?;
+    drop(runs);
+    taken_of_one(alloc, op, whole, ends)
+}
+
+// The same where all rows stand in one batch.
+fn taken_of_one(
+    alloc: Global,
+    op: SetOp,
+    whole: Batch,
+    ends: &[u64],
+) -> Result<Vec<Batch>, NoMemory>
+    requires { AreEnds 0 ends.now whole.rows }
+    ensures rows { (inputs : List (List Row)) → (op ≢ ops.UnionAll) → rows_of whole ≡ flat_map (λ rows. rows) inputs → ends.now ≡ ends_from 0 inputs → IfOk result (λ batches. all_rows batches.items ≡ spec.set_in op inputs) }
+    ensures types { IfOk result (λ batches. All (λ batch. types_of batch ≡ types_of whole) batches.items) }
+    ensures few { IfOk result (λ batches. All (λ batch. batch.rows ≤ 65536) batches.items) }
+{
+    let keyed = OneBatch::of(alloc, whole)?;
+    let chains = Chains::build(alloc, keyed)?;
+    let numbers = chains.numbers(alloc, chains.keys())?;
+    let (first, others) = first_input(op, ends);
+    let rows = taken_rows(alloc, op, &chains, &numbers, first, others)?;
+    gather_in_parts(alloc, &chains.keys().batch, &rows)
+}
+
+// The same where they stand in several batches.
+fn taken_of_runs(
     alloc: Global,
     op: SetOp,
     types: &[Ty],

@@ -2,4 +2,5 @@ pub mod ArrangedLaws
 pub mod OrderLaws
 pub mod PlaceLaws
 pub mod PrefixLaws
+pub mod RisingLaws
 pub mod RowLaws

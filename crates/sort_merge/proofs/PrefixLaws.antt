@@ -139,7 +139,7 @@ module _ (keys : List KeyOrder) (is_there : ℕ → Bool) (row_at : ℕ → Row)
       subst (IsArrangement cmp (map row_of rows)) (sym places) (arrangement cmp (place_total keys is_there row_at) (map row_of rows))
 
 -- the parts of a packed number
-prefix_packed : (prefix row : ℕ) → row < 2 ^ 64 → prefix_of (packed prefix row) ≡ prefix
+pub prefix_packed : (prefix row : ℕ) → row < 2 ^ 64 → prefix_of (packed prefix row) ≡ prefix
 prefix_packed prefix row below = omega arith
 
 row_packed : (prefix row : ℕ) → row < 2 ^ 64 → row_of (packed prefix row) ≡ row

@@ -1,14 +1,11 @@
 -- The rows of a batch by their places, and their keys.
-use Rattle.std.proofs.Common.{◌≡◌, ◌∙◌, ℕ, zero, suc, ◌+◌, ◌<◌, ◌≤◌, List, [], ◌∷◌, ◌++◌, Bool, true, false, ◌&&◌, map, get_or, length, take, drop, append-nil, append_assoc, refl, sym, ap, subst, arith}
-use Rattle.std.specs.List.{AllByRecursion, All, flat_map, range_with_len}
-use Rattle.std.proofs.lemmas.Grind.{flat_map-append}
-use Rattle.std.proofs.lemmas.List.{map-append}
-use Rattle.std.proofs.Math.Seq.{take-append_seam, drop-append_seam}
+use Rattle.std.proofs.Common.{◌≡◌, ◌∙◌, ℕ, zero, suc, ◌+◌, ◌<◌, ◌≤◌, List, [], ◌∷◌, ◌++◌, Bool, true, false, ◌&&◌, map, get_or, refl, sym, ap, subst, arith}
+use Rattle.std.specs.List.{AllByRecursion, All, range_with_len}
 use Rattle.std.specs.Ordering.{bool_cmp}
 use Rattle.std.specs.declared.cmp.Ordering.{Ordering}
 use Rattle.std.proofs.lemmas.Bool.{lt-ltb, ltb-true}
 use Rattle.std.proofs.lemmas.List.FromFn.{map-range_with_len_more}
-use Rattle.std.proofs.lemmas.List.Elements.{All-weaker, All-from_recursion, All-take, All-drop}
+use Rattle.std.proofs.lemmas.List.Elements.{All-weaker, All-from_recursion}
 use Rattle.sub_types.specs.Rows.{picked}
 use Rattle.sub_types.specs.Stream.{rows_alone}
 use Rattle.sub_types.specs.declared.value.Value.TheVariants.{Null}
@@ -93,22 +90,3 @@ pub picked_sorted : (keys : List KeyOrder) (batch : Batch) (places ordered at : 
     → given ≡ picked [] at (rows_of batch) → rows_alone given ≡ sorted_by keys (rows_alone (rows_of batch))
 picked_sorted keys batch places ordered at given all is same rows =
     ap rows_alone (rows ∙ ap (λ some. picked [] some (rows_of batch)) same ∙ rows_picked keys batch places ordered all is) ∙ sym (sorted_is keys (rows_of batch))
-
--- batches of the rows at the first so many places
-pub parts_more : (batch : Batch) (batches more : List Batch) (one : Batch) (part rest all : List ℕ) (rows : List Row) → more ≡ batches ++ one ∷ [] → rows_of one ≡ map (row_at batch) part → all ≡ part ++ rest
-    → flat_map rows_of batches ++ map (row_at batch) all ≡ rows → flat_map rows_of more ++ map (row_at batch) rest ≡ rows
-parts_more batch batches more one part rest all rows grown here parts so_far =
-    ap (λ some. flat_map rows_of some ++ map (row_at batch) rest) grown
-    ∙ ap (λ front. front ++ map (row_at batch) rest) (flat_map-append rows_of batches (one ∷ []) ∙ ap (λ back. flat_map rows_of batches ++ back) (append-nil (rows_of one) ∙ here))
-    ∙ append_assoc (flat_map rows_of batches) (map (row_at batch) part) (map (row_at batch) rest)
-    ∙ ap (λ back. flat_map rows_of batches ++ back) (sym (map-append (row_at batch) part rest) ∙ ap (map (row_at batch)) (sym parts))
-    ∙ so_far
-
--- what holds of the places holds of those in a part and of the rest
-pub within_first : (n : ℕ) (part rest all : List ℕ) → all ≡ part ++ rest → All (λ i. i < n) all → All (λ i. i < n) part
-within_first n part rest all parts within =
-    subst (All (λ i. i < n)) (ap (take (length part)) parts ∙ take-append_seam part rest) (All-take (λ i. i < n) (length part) all within)
-
-pub within_rest : (n : ℕ) (part rest all : List ℕ) → all ≡ part ++ rest → All (λ i. i < n) all → All (λ i. i < n) rest
-within_rest n part rest all parts within =
-    subst (All (λ i. i < n)) (ap (drop (length part)) parts ∙ drop-append_seam part rest) (All-drop (λ i. i < n) (length part) all within)

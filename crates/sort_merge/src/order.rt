@@ -42,12 +42,16 @@ fn places_of(alloc: Global, rows: &[u128]) -> Result<Vec<u64>, NoMemory>
     Ok(places)
 }
 
-// Puts rows in order.
+// Puts all rows in order: first by their numbers, which compare fast, so that mostly no row is moved after that.
 fn put_in_order(keys: &[KeyOrder], batch: &Batch, rows: &mut Vec<u128>) -> Result<(), NoMemory>
     requires columns { All (λ key. key.column < length batch.now.columns.items) keys.now }
+    requires rows { rows.old.items ≡ map (spec.prefixed_at keys.now batch.now) (range_with_len 0 batch.now.rows) }
     ensures arrangement { OnOk result (IsArrangement (spec.prefixed_cmp keys.now (has_row batch.now) (row_at batch.now)) rows.old.items rows.new.items) }
     ensures count { length rows.new.items ≡ length rows.old.items }
 {
+    // A batch has fewer than 2^64 rows.
+    let _rows = batch.rows;
+    rows.sort()?;
     rows.sort_by(|a, b| compare_rows(keys, batch, *a, *b))?;
     Ok(())
 }

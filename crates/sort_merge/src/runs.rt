@@ -1,8 +1,7 @@
 // The rows of several runs in order.
-ghost use Rattle.std.specs.Prelude.{◌≡◌, ◌<◌, ◌≤◌, ◌^◌, true, [], length, All, IfOk, OnOk};
-ghost use Rattle.std.specs.List.{flat_map, sum_by};
+ghost use Rattle.std.specs.Prelude.{◌≡◌, ◌<◌, ◌≤◌, length, All, IfOk, OnOk};
+ghost use Rattle.std.specs.List.{flat_map};
 ghost use Rattle.sub_types.specs.Kind.{IsKind};
-ghost use Rattle.sub_types.specs.Rows.{picked};
 ghost use Rattle.sub_types.specs.Stream.{rows_alone};
 ghost use Rattle.plan_denote.specs.Sort.{IsArrangement};
 ghost use Rattle.plan_pipes.specs.RowMeaning.{sorted_by};
@@ -12,18 +11,12 @@ ghost use Rattle.sort_merge.specs.RowOrder.{place_cmp};
 
 use crate::order::ordered_places;
 use batch::{Batch, join_batches};
-use batch_places::{Place, all_places, batches_at, is_row};
+use batch_places::{Place, all_places, are_few, batches_at, gather_in_parts, is_row};
 use rel_specs::KeyOrder;
 use row_keys::compare_keys;
 use std::alloc::Global;
 use std::cmp::Ordering;
 use sub_types::{NoMemory, Ty};
-
-/// The most rows of a batch that is made of several.
-const BATCH_ROWS: usize = 65_536;
-
-/// Runs of fewer rows together are joined before they are put in order.
-const MANY_ROWS: u64 = 1 << 31;
 
 /// The rows of all runs in order of these columns, in batches of up to 65,536 rows that are numbered 0. Rows with equal keys
 /// stand in the order of their runs, and those of one run in its order. Runs that are in order are merged: n rows of k runs take
@@ -52,20 +45,6 @@ pub fn interleave(
     batches_in_order(alloc, keys, &whole)
 }
 
-// Whether batches have fewer than 2^31 rows together.
-fn are_few(runs: &[Batch]) -> bool
-    ensures { result ≡ true → sum_by (λ run. run.rows) runs.now < 2 ^ 31 }
-{
-    let mut rows = 0;
-    for run in runs {
-        if run.rows >= MANY_ROWS - rows {
-            return false;
-        }
-        rows += run.rows;
-    }
-    true
-}
-
 // The types of a batch's columns.
 fn types_in(alloc: Global, batch: &Batch) -> Result<Vec<Ty>, NoMemory>
     ensures types { IfOk result (λ types. types.items ≡ types_of batch.now) }
@@ -87,22 +66,7 @@ fn batches_in_order(alloc: Global, keys: &[KeyOrder], whole: &Batch) -> Result<V
     ensures number { IfOk result (λ batches. All (λ batch. batch.number ≡ whole.now.number) batches.items) }
 {
     let places = ordered_places(alloc, keys, whole)?;
-    gathered(alloc, whole, &places)
-}
-
-// The rows at places, in batches of up to 65,536 rows.
-fn gathered(alloc: Global, whole: &Batch, places: &[u64]) -> Result<Vec<Batch>, NoMemory>
-    requires { All (λ place. place < whole.now.rows) places.now }
-    ensures rows { IfOk result (λ batches. flat_map rows_of batches.items ≡ picked [] places.now (rows_of whole.now)) }
-    ensures types { IfOk result (λ batches. All (λ batch. types_of batch ≡ types_of whole.now) batches.items) }
-    ensures few { IfOk result (λ batches. All (λ batch. batch.rows ≤ 65536) batches.items) }
-    ensures number { IfOk result (λ batches. All (λ batch. batch.number ≡ whole.now.number) batches.items) }
-{
-    let mut batches = Vec::new(alloc);
-    for part in places.chunks(BATCH_ROWS) {
-        batches.push(whole.gather(alloc, part)?)?;
-    }
-    Ok(batches)
+    gather_in_parts(alloc, whole, &places)
 }
 
 // The rows of runs in order, where they are too many for one batch.

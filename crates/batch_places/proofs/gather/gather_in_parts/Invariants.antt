@@ -3,7 +3,7 @@ use Rattle.std.specs.List.{flat_map}
 use Rattle.std.specs.Slice.Iter.{chunks_rest, chunks_size}
 use Rattle.batch.specs.BatchRows.{rows_of, types_of}
 use Rattle.batch_places.specs.BatchRow.{row_at}
-use Rattle.sort_merge.proofs.runs.gathered.Given as goal
+use Rattle.batch_places.proofs.gather.gather_in_parts.Given as goal
 
 -- the rows so far, and those at the places that are left
 abbrev pub invariant-loop-part : goal.invariant-loop-part

@@ -1,6 +1,6 @@
 use Rattle.std.proofs.Common.{◌≡◌, ◌<◌, ◌^◌, take}
 use Rattle.std.specs.List.{sum_by}
-use Rattle.sort_merge.proofs.runs.are_few.Given as goal
+use Rattle.batch_places.proofs.few.are_few.Given as goal
 
 -- the rows so far, which are few
 abbrev pub invariant-loop-run : goal.invariant-loop-run

@@ -4,8 +4,8 @@ use Rattle.std.specs.Slice.Iter.{chunks_rest}
 use Rattle.batch.specs.declared.batch.Batch.{Batch}
 use Rattle.batch.specs.BatchRows.{types_of}
 use Rattle.batch_places.specs.BatchRow.{row_at}
-use Rattle.sort_merge.proofs.RowLaws.{parts_more, within_first, within_rest}
-use Rattle.sort_merge.proofs.runs.gathered.Goals as goal
+use Rattle.batch_places.proofs.PartLaws.{parts_more, within_first, within_rest}
+use Rattle.batch_places.proofs.gather.gather_in_parts.Goals as goal
 
 pub gather-requires : goal.gather-requires
 gather-requires c =
