@@ -1,5 +1,4 @@
 use Rattle.std.proofs.Common.{◌≡◌, ◌∙◌, All, ap, sym, subst, length}
-use Rattle.std.specs.List.{flat_map}
 use Rattle.std.proofs.lemmas.Result.{IfOk-weaker}
 use Rattle.batch.specs.declared.batch.Batch.{Batch}
 use Rattle.batch.specs.BatchRows.{rows_of, types_of}

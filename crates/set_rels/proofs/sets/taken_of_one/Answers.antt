@@ -1,11 +1,11 @@
-use Rattle.std.proofs.Common.{◌≡◌, ◌∙◌, ◌≤◌, [], All, map, ap, sym, subst, length, arith}
+use Rattle.std.proofs.Common.{◌≡◌, ◌∙◌, ◌≤◌, [], All, ap, sym, subst, arith}
 use Rattle.std.specs.List.{flat_map}
 use Rattle.std.proofs.lemmas.Result.{IfOk-weaker}
 use Rattle.sub_types.specs.Rows.{picked}
 use Rattle.batch.specs.declared.batch.Batch.{Batch}
 use Rattle.batch.specs.BatchRows.{rows_of, types_of}
 use Rattle.hash_chains.specs.First.{rows_where}
-use Rattle.plan_denote.specs.Sets.{row_at, set_in}
+use Rattle.plan_denote.specs.Sets.{set_in}
 use Rattle.set_places.specs.Taken.{AreEnds, takes, same_in}
 use Rattle.set_places.proofs.CountLaws.{ends_within}
 use Rattle.set_rels.specs.Inputs.{first_end, other_ends}
