@@ -1,0 +1,16 @@
+//! The functions of a plan on whole columns, by `kernels` where one fits the columns' types: comparisons and arithmetic of
+//! numbers of one type, tests of texts, `xor` and `not`. Each argument is a column or a constant, which isn't laid out as a
+//! column. Where no kernel fits, the answer is `None`; no clause says where one does.
+#![tactic(auto)]
+
+mod arithmetic;
+mod call;
+mod comparisons;
+mod made;
+mod numbers;
+mod operand;
+mod texts;
+mod truths;
+
+pub use call::{call_one, call_two};
+pub use operand::Operand;
