@@ -1,38 +1,31 @@
 -- What is known of an accepted plan.
 use Rattle.std.proofs.Common.{◌≡◌, ◌≤◌, ℕ, suc, List, [], ◌∷◌, Option, Some, None, length, slice_get, refl, sym, ap, subst, true, arith}
-use Rattle.std.specs.List.{All, AllZip, filter_map, cons_option}
+use Rattle.std.specs.List.{All, filter_map, cons_option}
 use Rattle.std.proofs.lemmas.List.Elements.{All-from_recursion, All-weaker}
-use Rattle.sub_types.specs.Kind.{IsKind}
-use Rattle.sub_types.specs.Value.{Fits}
 use Rattle.sub_types.specs.declared.kind.Ty.{Ty}
 use Rattle.plan_typed.specs.declared.rel.Op.{Op, out-Op}
 use Rattle.plan_typed.specs.declared.rel.Op.TheOpen.{Op-F}
 use Rattle.plan_typed.specs.declared.rel.Rel.{Rel, out-Rel, every_here-Rel}
 use Rattle.plan_typed.specs.declared.sub.Holed.{Holed}
 use Rattle.plan_typed.specs.Types.{columns_of}
-use Rattle.plan_denote.specs.Rows.{Row}
-use Rattle.plan_denote.specs.Subqueries.{denote_plan}
+use Rattle.denote_typed.specs.Holes.{AreAwaited}
 use Rattle.plan_reads.specs.Reads.{reads_of}
 use Rattle.plan_reads.specs.declared.reads.PlanRead.{PlanRead}
 use Rattle.plan_verdict.proofs.VerdictLaw.{verdict_is_well_typed}
+use Rattle.verdict_awaits.proofs.Law.{law_of_verdicts}
 use Rattle.well_typed.specs.Columns.{columns_at}
 use Rattle.well_typed.specs.WellTyped.{IsWellTyped, IsRelation, AreTyped, AreAll, direct_in}
-use Rattle.well_typed.proofs.ValidColumns.{typed_columns}
-use Rattle.row_engine.specs.declared.tables.Table.{Table}
-use Rattle.row_engine.specs.Tables.{tables_seen}
 use Rattle.plan_tables.specs.Open.{IsShaped}
-use Rattle.plan_tables.specs.Read.{IsTableOf}
 use Rattle.plan_laws.specs.Shaped as laws
 use Rattle.plan_laws.proofs.ShapeLaws.{law_of_shapes}
-use Rattle.run_laws.proofs.RunLaws.{fit_in_memory}
 use Rattle.run_accepted.specs.Done.{IsAccepted}
 
 pub accepted_typed : (plan : Holed) → IsAccepted plan → IsWellTyped plan
 accepted_typed plan accepted = verdict_is_well_typed true accepted.0 plan accepted.1
 
--- its columns are of valid kinds
-pub accepted_kinds : (plan : Holed) → IsAccepted plan → All (λ (ty : Ty). IsKind ty.kind) (columns_of plan.typed.rel)
-accepted_kinds plan accepted = All-from_recursion (λ (ty : Ty). IsKind ty.kind) (columns_of plan.typed.rel) (typed_columns plan.typed.rel (accepted_typed plan accepted).plan)
+-- the hole of each of its subqueries awaits what the subquery gives
+pub accepted_awaits : (plan : Holed) → IsAccepted plan → AreAwaited plan.subs plan.typed.rel
+accepted_awaits plan accepted = law_of_verdicts accepted.0 plan accepted.1
 
 -- as many as are implied
 same_length : (implied given : List Ty) → AreAll implied given → length given ≡ length implied
@@ -70,10 +63,3 @@ pub accepted_shaped : (plan : Holed) (reads : List PlanRead) → IsAccepted plan
 accepted_shaped plan reads accepted is =
     subst (All IsShaped) (sym is)
     (All-weaker laws.IsShaped IsShaped (λ read shaped. shaped.0) (reads_of plan) (All-from_recursion laws.IsShaped (reads_of plan) (law_of_shapes plan (accepted_typed plan accepted))))
-
--- and its rows over tables in memory fit its columns
-pub accepted_fit : (plan : Holed) (tables : List Table) (rows : List Row) → IsAccepted plan → AllZip IsTableOf (reads_of plan) tables → rows ≡ (denote_plan (tables_seen tables) plan).rows
-    → All (Fits (columns_of plan.typed.rel)) rows
-accepted_fit plan tables rows accepted are is =
-    subst (All (Fits (columns_of plan.typed.rel))) (sym is)
-    (All-from_recursion (Fits (columns_of plan.typed.rel)) (denote_plan (tables_seen tables) plan).rows (fit_in_memory accepted.0 plan tables accepted.1 are))

@@ -1,6 +1,7 @@
 // The rows of an accepted plan, of which nothing is written.
-ghost use Rattle.std.specs.Prelude.{◌≡◌, ◌≢◌, ◌-◌, ◌≤◌, ℕ, List, Some, Ok, Err, length, map};
-ghost use Rattle.std.specs.List.{AllZip};
+ghost use Rattle.std.specs.Prelude.{◌≡◌, ◌≢◌, ◌-◌, ◌≤◌, ℕ, List, Some, Ok, Err, IfOk, length, map};
+ghost use Rattle.std.specs.List.{AllZip, flat_map};
+ghost use Rattle.batch.specs.BatchRows.{rows_of};
 ghost use Rattle.world.specs.Counts.{Rose};
 ghost use Rattle.world.specs.Files.{Files};
 ghost use Rattle.plan_reads.specs.Reads.{reads_of as spec_reads_of};
@@ -13,12 +14,13 @@ ghost use Rattle.run_accepted.specs.Done.{IsAccepted, input_of};
 ghost use Rattle.run_accepted.specs.Fits.{FitsRows, IsReceiptOf};
 
 use crate::inputs::receipts_of;
+use batch::Batch;
+use plan_batches::run_plan;
 use plan_leaves::Items;
 use plan_reads::reads_of;
-use plan_rows::run_plan;
 use plan_tables::{OpenRead, close_reads, open_reads, read_tables};
 use plan_typed::Holed;
-use row_engine::Table;
+use row_engine::{Table, table_rows};
 use run_words::{PipeReceipt, Status};
 use std::alloc::Global;
 use sub_types::{NoMemory, Value, Word};
@@ -109,15 +111,28 @@ fn rows_of_tables(
         → FitsRows (Ok opened) plan.now workers result }
     ensures reads_nothing { result ≢ Err Status.ReadFault }
 {
-    let stream = match run_plan(alloc, plan, tables) {
-        Ok(stream) => stream,
+    let all = match run_plan(alloc, plan, tables) {
+        Ok(all) => all,
         Err(NoMemory) => return Err(Status::NoMemory),
     };
-    if let Some(fault) = stream.end {
+    if let Some(fault) = all.end {
         return Err(Status::DataFault { fault });
     }
-    Ok(Ran {
-        rows: stream.rows.into_vec(),
-        receipts,
-    })
+    match rows_of_batches(alloc, all.batches) {
+        Ok(rows) => Ok(Ran { rows, receipts }),
+        Err(NoMemory) => Err(Status::NoMemory),
+    }
+}
+
+/// The rows of batches one by one.
+fn rows_of_batches(alloc: Global, batches: Vec<Batch>) -> Result<Vec<Items<Value>>, NoMemory>
+    ensures { IfOk result (λ rows. rows.items ≡ flat_map rows_of batches.items) }
+{
+    let tables = [Table {
+        relation: 0,
+        batches: Items::from_vec(batches),
+        end: None,
+    }];
+    let stream = table_rows(alloc, &tables, 0)?;
+    Ok(stream.rows.into_vec())
 }

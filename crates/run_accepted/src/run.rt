@@ -15,9 +15,9 @@ ghost use Rattle.run_accepted.specs.Fits.{FitsFiles, IsReceiptOf, IsOutcome};
 
 use crate::bare::bare_table;
 use crate::inputs::receipts_of;
-use crate::write::{write_batches, write_rows};
+use crate::write::write_batches;
+use plan_batches::run_plan;
 use plan_reads::reads_of;
-use plan_rows::run_plan;
 use plan_tables::{OpenRead, close_reads, open_reads, read_tables};
 use plan_typed::Holed;
 use row_engine::Table;
@@ -128,11 +128,11 @@ fn run_tables<F: Folder>(
             receipts,
         );
     }
-    run_rows(alloc, folder, reading, plan, tables, receipts)
+    run_relations(alloc, folder, reading, plan, tables, receipts)
 }
 
-/// The same for any plan, by its rows.
-fn run_rows<F: Folder>(
+/// The same for any plan, by the pipelines of its relations.
+fn run_relations<F: Folder>(
     alloc: Global,
     folder: &mut F,
     reading: Reading<'_>,
@@ -152,19 +152,12 @@ fn run_rows<F: Folder>(
     ensures write_fault { result ≡ Status.WriteFault → Rose (F.write_faults folder.old) (F.write_faults folder.new) }
     ensures lent { F.lent folder.new ≡ F.lent folder.old }
 {
-    let stream = match run_plan(alloc, plan, tables) {
-        Ok(stream) => stream,
+    let all = match run_plan(alloc, plan, tables) {
+        Ok(all) => all,
         Err(NoMemory) => return Status::NoMemory,
     };
-    if let Some(fault) = stream.end {
+    if let Some(fault) = all.end {
         return Status::DataFault { fault };
     }
-    write_rows(
-        alloc,
-        folder,
-        reading,
-        plan,
-        stream.rows.as_slice(),
-        receipts,
-    )
+    write_batches(alloc, folder, reading, plan, &all.batches, receipts)
 }

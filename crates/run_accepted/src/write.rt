@@ -1,8 +1,6 @@
 // The out file of a plan's rows.
 ghost use Rattle.std.specs.Prelude.{◌≡◌, ◌≢◌, ◌<◌, ◌≤◌, ℕ, List, MatchOption, Ok, length, nat_le};
 ghost use Rattle.std.specs.List.{All, AllZip, flat_map, sum_by};
-ghost use Rattle.sub_types.specs.Kind.{IsKind};
-ghost use Rattle.sub_types.specs.Value.{Fits};
 ghost use Rattle.world.specs.Counts.{Rose};
 ghost use Rattle.batch.specs.BatchRows.{rows_of, types_of};
 ghost use Rattle.plan_typed.specs.Types.{columns_of};
@@ -12,12 +10,10 @@ ghost use Rattle.run_accepted.specs.Fits.{FitsFiles, IsReceiptOf, IsOutcome};
 
 use arrow_write::{WriteError, write_file};
 use batch::Batch;
-use plan_leaves::Items;
 use plan_typed::Holed;
-use row_batches::rows_to_batches;
 use run_words::{PipeReceipt, Reading, Report, Status};
 use std::alloc::Global;
-use sub_types::{ByteList, Fault, FaultKind, NoMemory, Value};
+use sub_types::{ByteList, Fault, FaultKind};
 use world::Folder;
 
 /// The most rows of an answer.
@@ -26,43 +22,8 @@ const MAX_ROWS: usize = 1 << 36;
 /// The most bytes of a plan, and so of the names of its columns together.
 const MAX_NAMES: usize = 16_777_216;
 
-/// Writes the rows of a plan, unless they are too many, and reports them with these receipts.
-#[tactic(auto, unfolding(crate::specs::Done::done_with))]
-pub fn write_rows<F: Folder>(
-    alloc: Global,
-    folder: &mut F,
-    reading: Reading<'_>,
-    plan: &Holed,
-    rows: &[Items<Value>],
-    receipts: Vec<PipeReceipt>,
-) -> Status
-    requires kinds { All (λ ty. IsKind ty.kind) (columns_of plan.now.typed.rel) }
-    requires same { length plan.now.typed.names ≡ length (columns_of plan.now.typed.rel) }
-    requires few { length (columns_of plan.now.typed.rel) ≤ 1024 }
-    requires fit { All (Fits (columns_of plan.now.typed.rel)) rows.now }
-    ensures files { (inputs : List (ℕ × ℕ)) → AllZip (IsReceiptOf reading.entry.workers) inputs receipts.items
-        → FitsFiles (spec.done_with (reading_seen reading.entry) plan.now inputs rows.now) (F.files folder.old) (F.files folder.new) result }
-    ensures named { IsOutcome plan.now result }
-    ensures reads_nothing { result ≢ Status.ReadFault }
-    ensures read_faults { F.read_faults folder.new ≡ F.read_faults folder.old }
-    ensures write_fault { result ≡ Status.WriteFault → Rose (F.write_faults folder.old) (F.write_faults folder.new) }
-    ensures lent { F.lent folder.new ≡ F.lent folder.old }
-{
-    if rows.len() > MAX_ROWS {
-        return too_many_rows();
-    }
-    let report = Report {
-        rows: rows.len() as u64,
-        receipts,
-    };
-    let types = plan.typed.rel.columns.as_slice();
-    match rows_to_batches(alloc, types, rows) {
-        Ok(batches) => write_counted(alloc, folder, reading, plan, &batches, report),
-        Err(NoMemory) => Status::NoMemory,
-    }
-}
-
-/// The same where the rows stand in batches, which are written as they are.
+/// Writes the rows of a plan, which stand in batches of its columns' types, unless they are too many, and reports them with these
+/// receipts.
 #[tactic(auto, unfolding(crate::specs::Done::done_with))]
 pub fn write_batches<F: Folder>(
     alloc: Global,
