@@ -1,11 +1,15 @@
 // Batches of two columns of small numbers, some of them null.
-ghost use Rattle.std.specs.Prelude.{◌≡◌, ◌∷◌, [], IfOk};
+ghost use Rattle.std.specs.Prelude.{◌≡◌, ◌<◌, ◌∷◌, [], IfOk};
+ghost use Rattle.sub_types.specs.Nullable.{int_value};
 ghost use Rattle.batch.specs.BatchRows.{types_of};
 
 use crate::random::Random;
 use batch::{Batch, Column, ColumnBuilder};
 use std::alloc::Global;
 use sub_types::{Kind, NoMemory, Ty, Value};
+
+/// A number, or none for a null.
+pub(crate) type Number = Option<i64>;
 
 pub(crate) const NUMBER: Ty = Ty {
     kind: Kind::I64,
@@ -43,6 +47,47 @@ fn push_number(builder: &mut ColumnBuilder, number: i64) -> Result<(), NoMemory>
         builder.push(&Value::Null)
     } else {
         builder.push(&Value::Int(number))
+    }
+}
+
+// These rows.
+pub(crate) fn batch_of_rows(alloc: Global, rows: &[[Number; 2]]) -> Result<Batch, NoMemory>
+    ensures { IfOk result (λ batch. types_of batch ≡ NUMBER ∷ NUMBER ∷ []) }
+{
+    let first = column_of_rows(alloc, rows, 0)?;
+    let second = column_of_rows(alloc, rows, 1)?;
+    batch_of(alloc, first, second)
+}
+
+// One of the columns of these rows.
+fn column_of_rows(alloc: Global, rows: &[[Number; 2]], place: usize) -> Result<Column, NoMemory>
+    requires { place < 2 }
+    ensures { IfOk result (λ column. column.ty ≡ NUMBER) }
+{
+    let mut builder = ColumnBuilder::new(alloc, NUMBER);
+    for row in rows {
+        push_value(&mut builder, row[place])?;
+    }
+    Ok(builder.finish())
+}
+
+fn push_value(builder: &mut ColumnBuilder, number: Number) -> Result<(), NoMemory>
+    requires { builder.old.ty ≡ NUMBER }
+    ensures { builder.new.ty ≡ builder.old.ty }
+{
+    match number {
+        Some(number) => builder.push(&Value::Int(number)),
+        None => builder.push(&Value::Null),
+    }
+}
+
+/// A number or a null as a value.
+pub(crate) fn value_of(number: Number) -> Value
+    ensures { result ≡ int_value number }
+{
+    match number {
+        Some(number) => Value::Int(number),
+        None => Value::Null,
     }
 }
 

@@ -34,6 +34,8 @@ pub(crate) enum Rest {
     Less,
     /// The left one divided by the right one is above 0, which faults at 0.
     Quotient,
+    /// The left one divided by the right one is less than 5.
+    BelowFive,
 }
 
 // The whole condition, of which there is one.
@@ -114,7 +116,11 @@ fn rest_of(alloc: Global, rest: Rest) -> Result<Vec<Expr>, NoMemory> {
         Rest::Less => parts.push(call(alloc, Func::Lt, column(1), column(3), TRUTH)?)?,
         Rest::Quotient => {
             let quotient = call(alloc, Func::Divide, column(1), column(3), NUMBER)?;
-            parts.push(call(alloc, Func::Gt, quotient, zero(), TRUTH)?)?;
+            parts.push(call(alloc, Func::Gt, quotient, number(0), TRUTH)?)?;
+        }
+        Rest::BelowFive => {
+            let quotient = call(alloc, Func::Divide, column(1), column(3), NUMBER)?;
+            parts.push(call(alloc, Func::Lt, quotient, number(5), TRUTH)?)?;
         }
     }
     Ok(parts)
@@ -124,9 +130,9 @@ fn column(index: u32) -> Expr {
     Expr::Column { index, ty: NUMBER }
 }
 
-fn zero() -> Expr {
+fn number(number: i64) -> Expr {
     Expr::Const {
-        value: Value::Int(0),
+        value: Value::Int(number),
         ty: NUMBER,
     }
 }

@@ -110,7 +110,7 @@ fn by_rows(
 }
 
 // The table of the right rows in two parts.
-fn table_of(alloc: Global, spec: JoinSpec, right: &Batch) -> Result<JoinTable, NoMemory>
+pub(crate) fn table_of(alloc: Global, spec: JoinSpec, right: &Batch) -> Result<JoinTable, NoMemory>
     requires joinable { IsJoinable spec }
     requires kinds { HasKinds spec.right.items right.now }
     ensures { IfOk result (λ table. table.spec ≡ spec) }
@@ -125,7 +125,7 @@ fn table_of(alloc: Global, spec: JoinSpec, right: &Batch) -> Result<JoinTable, N
 }
 
 // The join of the left rows in two pieces, with marks of their own.
-fn by_table(
+pub(crate) fn by_table(
     alloc: Global,
     kind: JoinKind,
     table: &JoinTable,
