@@ -1,8 +1,9 @@
 -- Pieces up to their first fault, and pieces behind others.
-use Rattle.std.proofs.Common.{◌≡◌, ◌∙◌, List, [], ◌∷◌, ◌++◌, Option, Some, None, map, refl, sym, ap, ap₂, append_assoc}
+use Rattle.std.proofs.Common.{◌≡◌, ◌∙◌, ◌+◌, ◌<◌, ℕ, length, get_or, take, List, [], ◌∷◌, ◌++◌, Option, Some, None, map, refl, sym, ap, ap₂, subst, append_assoc}
 use Rattle.std.specs.List.{All, AllByRecursion, flat_map}
 use Rattle.std.proofs.lemmas.Grind.{flat_map-append}
-use Rattle.std.proofs.lemmas.List.{append-nil, map-append}
+use Rattle.std.proofs.lemmas.List.{append-nil, map-append, map_push, take_more}
+use Rattle.std.proofs.lemmas.List.Elements.{All-nil, All-cons}
 use Rattle.sub_types.specs.declared.fault.Fault.{Fault}
 use Rattle.sub_types.specs.Stream.{Stream, rows_alone, ended, followed_by, glue}
 use Rattle.sub_types.proofs.StreamLaws.{glue-append}
@@ -53,6 +54,24 @@ alone rows (Some fault) = refl
 -- rows and then an end
 pub rows_and_end : (rows : List Row) (end : Option Fault) → followed_by (rows_alone rows) (ended end) ≡ stream rows end
 rows_and_end rows end = ap (λ all. stream all end) (append-nil rows)
+
+-- one piece more
+same_alone : (s : Stream Row) → followed_by s (rows_alone []) ≡ s
+same_alone s = alone s.rows s.end
+
+pub stream_more : (pieces : List Piece) (at : ℕ) (piece : Piece) → at < length pieces → piece ≡ get_or pieces at piece → followed_by (stream_of (take at pieces)) (stream_of_piece piece) ≡ stream_of (take (at + 1) pieces)
+stream_more pieces at piece below is =
+    sym (ap stream_of (take_more pieces at piece below ∙ ap (λ (one : Piece). take at pieces ++ one ∷ []) (sym is))
+    ∙ ap glue (map_push stream_of_piece (take at pieces) piece)
+    ∙ glue-append (map stream_of_piece (take at pieces)) (stream_of_piece piece ∷ [])
+    ∙ ap (followed_by (stream_of (take at pieces))) (same_alone (stream_of_piece piece)))
+
+-- one piece alone
+pub one_stream : (pieces : List Piece) (piece : Piece) (s : Stream Row) → pieces ≡ piece ∷ [] → stream_of_piece piece ≡ s → stream_of pieces ≡ s
+one_stream pieces piece s is same = ap stream_of is ∙ same_alone (stream_of_piece piece) ∙ same
+
+pub one_holds : (P : Piece → Type 0) (pieces : List Piece) (piece : Piece) → pieces ≡ piece ∷ [] → P piece → All P pieces
+one_holds P pieces piece is here = subst (All P) (sym is) (All-cons P piece [] here (All-nil P))
 
 -- the rows of batches up to the first fault
 rows_of_batches : (pieces : List Piece) → flat_map rows_of (map (λ (piece : Piece). piece.batch) pieces) ≡ rows_in pieces

@@ -58,7 +58,8 @@ fn without_rows(alloc: Global, piece: &Piece) -> Result<Piece, NoMemory>
     })
 }
 
-fn one_piece(alloc: Global, piece: Piece) -> Result<Vec<Piece>, NoMemory>
+/// A piece alone.
+pub(crate) fn one_piece(alloc: Global, piece: Piece) -> Result<Vec<Piece>, NoMemory>
     ensures { IfOk result (λ pieces. pieces.items ≡ piece ∷ []) }
 {
     let mut pieces = Vec::new(alloc);

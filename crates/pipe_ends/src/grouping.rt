@@ -1,4 +1,4 @@
-// Aggregates, over one set of groups or several, by their rows.
+// Aggregates: over one set of groups by batches, and over several by their rows.
 ghost use Rattle.std.specs.Prelude.{◌≡◌, All, IfOk};
 ghost use Rattle.batch.specs.BatchRows.{types_of};
 ghost use Rattle.set_rels.specs.Inputs.{stream_of};
@@ -8,14 +8,17 @@ ghost use Rattle.plan_pipes.specs.declared.pipe.Breaker.TheVariants as breakers;
 ghost use Rattle.row_steps.specs.Seen.{seen};
 ghost use Rattle.pipe_steps.specs.Ready.{IsFit};
 ghost use Rattle.pipe_types.specs.Exact.{gathered_types};
+ghost use Rattle.aggregate.specs.States.{IsOver, IsOf, IsFor};
 
+use crate::ends::one_piece;
 use crate::kinds::are_kinds;
 use crate::rows::{pieces_of_rows, rows_of_pieces};
 use crate::set_groups::sets_in;
-use crate::types::{aggregate_types, grouping_types};
+use crate::types::grouping_types;
+use aggregate::Partial;
 use batch::Piece;
 use rel_specs::{AggSpec, SetSpec};
-use row_groups::{aggregated, grouping_sets};
+use row_groups::grouping_sets;
 use row_steps::RowStream;
 use std::alloc::Global;
 use sub_types::{NoMemory, Ty};
@@ -23,7 +26,8 @@ use sub_types::{NoMemory, Ty};
 /// The most sets of groups.
 const MAX_GROUPINGS: usize = 64;
 
-/// The rows of an aggregate over pieces of these types.
+/// The rows of an aggregate over pieces of these types, by what is known of the groups of each piece's rows in turn. Where the types
+/// of the pieces may not stand in a plan, that is `NoMemory`.
 pub(crate) fn aggregated_pieces(
     alloc: Global,
     spec: &AggSpec,
@@ -37,22 +41,33 @@ pub(crate) fn aggregated_pieces(
     ensures typed { IfOk result (λ out. All (λ piece. types_of piece.batch ≡ gathered_types (breakers.Aggregate spec.now) types.now) out.items) }
     ensures fit { IfOk result (λ out. All (λ piece. IsFit piece.batch) out.items) }
 {
-    let given = aggregate_types(alloc, spec)?;
-    if !are_kinds(&given) {
+    if !are_kinds(types) {
         return Err(NoMemory);
     }
-    let rows = aggregated_rows(alloc, spec, pieces)?;
-    let out = pieces_of_rows(alloc, &given, rows)?;
+    let partial = partial_of(alloc, spec, types, &pieces)?;
+    let piece = partial.finals(spec)?;
+    let out = one_piece(alloc, piece)?;
     Ok(out)
 }
 
-// The same, as rows.
-fn aggregated_rows(alloc: Global, spec: &AggSpec, pieces: Vec<Piece>) -> Result<RowStream, NoMemory>
-    ensures { IfOk result (λ s. seen s ≡ aggregated_by spec.now (stream_of pieces.items)) }
+// What is known of the rows of pieces of these types.
+fn partial_of(
+    alloc: Global,
+    spec: &AggSpec,
+    types: &[Ty],
+    pieces: &[Piece],
+) -> Result<Partial, NoMemory>
+    requires over { IsOver types.now spec.now }
+    requires typed { All (λ piece. types_of piece.batch ≡ types.now) pieces.now }
+    requires fit { All (λ piece. IsFit piece.batch) pieces.now }
+    ensures of { IfOk result (λ partial. IsOf spec.now (stream_of pieces.now) partial) }
+    ensures over { IfOk result (λ partial. IsFor types.now spec.now partial) }
 {
-    let input = rows_of_pieces(alloc, pieces)?;
-    let rows = aggregated(alloc, spec.relation, &spec.groups, &spec.measures, input)?;
-    Ok(rows)
+    let mut partial = Partial::new(alloc, spec)?;
+    for piece in pieces {
+        let _end = partial.fold_batch(spec, piece)?;
+    }
+    Ok(partial)
 }
 
 /// The rows of an aggregate over several sets of groups, over pieces of these types. More than 64 sets are `NoMemory`: no plan has
