@@ -1,0 +1,4 @@
+pub mod PutLaws
+pub mod SettledLaws
+pub mod MergedLaws
+pub mod WorkedLaws

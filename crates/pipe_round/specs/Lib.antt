@@ -1,0 +1,4 @@
+pub mod Merged
+pub mod Settled
+pub mod Unused
+pub mod Worked

@@ -1,0 +1,14 @@
+//! A pipeline's input in pieces, worked by many workers: each piece goes through the steps by itself, whatever the workers' turns are,
+//! and what they give is put together in the order of the pieces, with the right rows that no piece matched behind them. It stands on
+//! `pipe_work`, `crew_round`, `piece_source` and `round_end`. Its meaning stands in its own `specs/` and in `plan_pipes/specs/`.
+#![tactic(auto)]
+
+mod labours;
+mod merging;
+mod pieces;
+mod round;
+mod together;
+
+pub use pieces::run_pieces;
+pub use round::PipeRound;
+pub use together::settle_pieces;

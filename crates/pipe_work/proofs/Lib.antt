@@ -1,0 +1,2 @@
+pub mod PassedLaws
+pub mod Crosses

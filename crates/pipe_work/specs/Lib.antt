@@ -1,0 +1,4 @@
+pub mod Pipe
+pub mod ReadyProp
+pub mod Passed
+pub mod Held
