@@ -1,0 +1,2 @@
+pub mod PushLaws
+pub mod SetLaws
