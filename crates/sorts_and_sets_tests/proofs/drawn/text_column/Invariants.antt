@@ -1,0 +1,7 @@
+-- The builder keeps its type.
+use Rattle.std.proofs.Common.{◌≡◌}
+use Rattle.sorts_and_sets_tests.specs.declared.drawn.TheConstants.{BINARY}
+use Rattle.sorts_and_sets_tests.proofs.drawn.text_column.Given as goal
+
+abbrev pub invariant-loop-row : goal.invariant-loop-row
+invariant-loop-row l = l.builder.ty ≡ BINARY
