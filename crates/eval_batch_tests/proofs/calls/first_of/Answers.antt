@@ -1,0 +1,7 @@
+use Rattle.std.proofs.Common.{sym, subst}
+use Rattle.eval_batch_tests.specs.Typed.{number, IsOver}
+use Rattle.eval_batch_tests.proofs.CallLaws.{first_of_is}
+use Rattle.eval_batch_tests.proofs.calls.first_of.Goals as goal
+
+pub returns : goal.returns
+returns c = subst (IsOver number) (sym c.in_ok-expr.ensures) (first_of_is c.args.a c.args.b c.requires.a c.requires.b)

@@ -1,0 +1,5 @@
+use Rattle.eval_batch_tests.proofs.CallLaws.{second_is}
+use Rattle.eval_batch_tests.proofs.calls.second.Goals as goal
+
+pub returns : goal.returns
+returns c = second_is
