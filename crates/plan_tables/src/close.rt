@@ -30,7 +30,7 @@ pub fn close_reads<F: Folder>(
 }
 
 /// The same of the tables of one of them.
-pub(crate) fn close_tables<F: Folder>(
+pub fn close_tables<F: Folder>(
     alloc: Global,
     folder: &mut F,
     tables: Vec<Vec<OpenFile<F::R>>>,

@@ -7,7 +7,7 @@ mod counts;
 mod open;
 mod read;
 
-pub use close::close_reads;
+pub use close::{close_reads, close_tables};
 pub use counts::batches_in;
 pub use open::{OpenRead, open_reads};
 pub use read::read_tables;

@@ -61,6 +61,7 @@ pub fn command_of(words: &[Word]) -> Command
 pub fn read_words<'a>(words: &'a [Word]) -> Option<Reading<'a>>
     ensures reading { option_map reading_seen result ≡ reading_of words.entry.now }
     ensures workers { IfSome result (λ reading. 1 ≤ reading.workers) }
+    ensures few_workers { IfSome result (λ reading. reading.workers ≤ 64) }
     ensures few { IfSome result (λ reading. length reading.bindings.now ≤ MAX_BINDINGS) }
 {
     let [command, plan, out, workers, bindings @ ..] = words else {
