@@ -13,10 +13,15 @@ ghost use Rattle.kernels.specs.declared.selection.Stop.{Stop};
 ghost use Rattle.batch_nodes.specs.declared.found.Found.TheVariants.{Made};
 ghost use Rattle.batch_nodes.specs.Evaluated.{eval_at};
 ghost use Rattle.batch_nodes.specs.Found.{IsUntil, found_values};
+ghost use Rattle.sub_types.specs.Nullable.{bool_value};
 ghost use Rattle.value_sets.specs.Sets.{answer_by, has};
 
-use batch::{Column, ColumnBuilder};
+mod columns;
+
+use batch::{Column, ColumnBuilder, ColumnData};
 use batch_nodes::Found;
+use col_fixed::BoolCol;
+use columns::column_answers;
 use plan_typed::Expr;
 use std::alloc::Global;
 use sub_types::{NoMemory, Ty};
@@ -46,6 +51,35 @@ pub fn among_constants(
 
 /// What the set says of each value.
 fn answers(alloc: Global, ty: Ty, set: &ValueSet, values: &Found<'_>) -> Result<Column, NoMemory>
+    requires { ty.kind ≡ kinds.Bool }
+    ensures ty { IfOk result (λ column. column.ty ≡ ty) }
+    ensures values { IfOk result (λ column. values_of column.values ≡ map (answer_by (has set.now)) (found_values values.now)) }
+{
+    let truths = column_answers(alloc, set, values)?;
+    match truths {
+        Some(truths) => Ok(truth_column(ty, truths)),
+        None => value_answers(alloc, ty, set, values),
+    }
+}
+
+fn truth_column(ty: Ty, truths: BoolCol) -> Column
+    requires { ty.kind ≡ kinds.Bool }
+    ensures ty { result.ty ≡ ty }
+    ensures values { values_of result.values ≡ map bool_value truths }
+{
+    Column {
+        ty,
+        values: ColumnData::Bool(truths),
+    }
+}
+
+/// The same value by value.
+fn value_answers(
+    alloc: Global,
+    ty: Ty,
+    set: &ValueSet,
+    values: &Found<'_>,
+) -> Result<Column, NoMemory>
     requires { ty.kind ≡ kinds.Bool }
     ensures ty { IfOk result (λ column. column.ty ≡ ty) }
     ensures values { IfOk result (λ column. values_of column.values ≡ map (answer_by (has set.now)) (found_values values.now)) }

@@ -1,1 +1,3 @@
 pub mod SoughtLaws
+pub mod KernelLaws
+pub mod JoinedLaws

@@ -4,8 +4,10 @@
 
 mod apply;
 mod casts;
+mod joined;
 mod options;
 
 pub use apply::apply_columns;
 pub use casts::cast_column;
+pub use joined::join_all;
 pub use options::{look, rows_sought};

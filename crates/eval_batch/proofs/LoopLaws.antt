@@ -1,5 +1,5 @@
 -- One turn of each loop over the parts of an expression, and its end.
-use Rattle.std.proofs.Common.{◌≡◌, ◌∙◌, ℕ, ◌+◌, ◌<◌, ◌≤◌, List, [], ◌∷◌, ◌++◌, length, map, take, get_or, zero, suc, Option, Some, None, Result, Ok, Err, IfOk, sym, ap, subst, arith}
+use Rattle.std.proofs.Common.{◌≡◌, ◌∙◌, ℕ, ◌+◌, ◌<◌, ◌≤◌, List, [], ◌∷◌, ◌++◌, length, map, take, get_or, zero, suc, Option, Some, None, Result, Ok, Err, IfOk, IfSome, sym, ap, subst, arith}
 use Rattle.std.proofs.lemmas.List.{take_more, take_all, get_or-map, get_or_past, length-map, length-take}
 use Rattle.std.specs.List.{All}
 use Rattle.std.proofs.lemmas.List.Elements.{All-head, All-tail}
@@ -18,6 +18,10 @@ use Rattle.well_typed.specs.ExprTyped.{IsTypedOver}
 use Rattle.batch.specs.BatchRows.{types_of}
 use Rattle.batch.specs.declared.batch.Batch.{Batch}
 use Rattle.kernels.specs.declared.selection.Stop.{Stop}
+use Rattle.kernels.specs.declared.selection.Stop.TheVariants.{Never}
+use Rattle.batch.specs.ColumnValues.{values_of}
+use Rattle.batch.specs.declared.column.Column.{Column}
+use Rattle.plan_denote.specs.Computed.{Computed}
 use Rattle.kernels.specs.Until.{until}
 use Rattle.batch_nodes.specs.Chosen.{other_than, marked, tried}
 use Rattle.batch_nodes.specs.Early as early_spec
@@ -159,3 +163,13 @@ sought_turn batch value rows found options n option answers stop there is are =
 
 pub found_short : (expr : Expr) (batch : Batch) (rows : List ℕ) (kind : Kind) (found : Found) (stop : Stop) → IsUntil (eval_at expr batch) rows kind found stop → length (found_values found) ≤ length rows
 found_short expr batch rows kind found stop is = omega (arith, ap length is.values, until-length (eval_at expr batch) rows)
+
+-- one argument more of whole columns, which are those of this expression
+pub joined_whole : {E : Type 0} (r : Result (Option Column) E) (early : Early) (rows : List ℕ) (firsts : List Value) (stop : Stop) (all : Found) (all_stop : Stop) (f : ℕ → Computed)
+    → found_values all ≡ (until f rows).values → all_stop ≡ (until f rows).stop
+    → IfOk r (λ found. IfSome found (λ column. (rows : List ℕ) (so_far other : ℕ → Computed) → AreUntil so_far rows firsts stop → AreUntil other rows (found_values all) all_stop
+    → AreUntil (λ i. early_spec.one_more early (so_far i) (other i)) rows (values_of column.values) Never))
+    → IfOk r (λ found. IfSome found (λ column. (so_far : ℕ → Computed) → AreUntil so_far rows firsts stop → AreUntil (λ i. early_spec.one_more early (so_far i) (f i)) rows (values_of column.values) Never))
+joined_whole (Ok (Some column)) early rows firsts stop all all_stop f values_are stop_is law = λ so_far first. law rows so_far f first (record { values = values_are; stop = stop_is })
+joined_whole (Ok None) early rows firsts stop all all_stop f values_are stop_is law = tt
+joined_whole (Err fault) early rows firsts stop all all_stop f values_are stop_is law = tt

@@ -1,5 +1,5 @@
 //! What each kind of expression is worth at rows of a batch, by what its parts are worth at them.
-ghost use Rattle.std.specs.Prelude.{◌≡◌, ◌+◌, ◌<◌, ◌≤◌, ℕ, true, length, map, Ok, Result, All, IfOk};
+ghost use Rattle.std.specs.Prelude.{◌≡◌, ◌+◌, ◌<◌, ◌≤◌, ℕ, true, length, map, Ok, Result, All, IfOk, IfSome};
 ghost use Rattle.sub_types.specs.Kind.{IsKind};
 ghost use Rattle.sub_types.specs.Value.{Fits};
 ghost use Rattle.sub_types.specs.declared.fault.FaultKind.{FaultKind};
@@ -19,13 +19,15 @@ ghost use Rattle.batch_nodes.specs.Options.{place_of};
 ghost use Rattle.plan_typed.specs.declared.expr.Expr.{Expr};
 ghost use Rattle.batch_nodes.specs.Evaluated.{eval_at, worth_at};
 ghost use Rattle.batch_nodes.specs.Parts as parts;
+ghost use Rattle.kernels.specs.declared.selection.Stop.TheVariants as stops;
 
 use crate::leaves::{column, constant};
 use crate::lists::{earlier, places_of, repeated};
 use crate::nodes::{Chosen, Columns, call_values, cast_values, if_values, switch_values};
+use crate::quick::is_quick;
 use among_constants::among_constants;
 use batch::{Batch, Column};
-use batch_calls::{look, rows_sought};
+use batch_calls::{join_all, look, rows_sought};
 use batch_nodes::{Early, Found, decide, join, nothing, rows_choosing, rows_left};
 use kernels::{Rows, Stop};
 use plan_typed::{Expr, Func, Overflow};
@@ -167,10 +169,40 @@ fn early_step(
         parts.AreUntil (λ i. early_spec.one_more early (so_far i) (eval_at arg.now batch.now i)) rows.now (values_of out.0.values) out.1) }
     ensures ty { IfOk result (λ out. out.0.ty ≡ ty) }
 {
+    if let Some(column) = quick_step(alloc, early, arg, ty, batch, rows, first, stop)? {
+        return Ok((column, Stop::Never));
+    }
     let left = rows_left(alloc, early, first, rows)?;
     let at = Rows::listed(left.as_slice());
     let (rest, rest_stop) = eval_rows(alloc, arg, batch, &at)?;
     join(alloc, early, ty, rows, first, stop, &rest, rest_stop)
+}
+
+/// The same by whole columns, where the argument is evaluated sooner at all rows than at those that are left open.
+#[cycle(eval)]
+fn quick_step(
+    alloc: Global,
+    early: Early,
+    arg: &Expr,
+    ty: Ty,
+    batch: &Batch,
+    rows: &Rows<'_>,
+    first: &Column,
+    stop: Stop,
+) -> Result<Option<Column>, NoMemory>
+    requires of { early_spec.IsOfKind early ty.kind }
+    requires typed { IsTypedOver (types_of batch.now) arg.now }
+    requires fit { All (Fits (types_of batch.now)) (rows_of batch.now) }
+    requires exist { All (λ row. row < batch.now.rows) rows.now }
+    ensures until { IfOk result (λ found. IfSome found (λ column. (so_far : ℕ → computed.Computed) → parts.AreUntil so_far rows.now (values_of first.now.values) stop →
+        parts.AreUntil (λ i. early_spec.one_more early (so_far i) (eval_at arg.now batch.now i)) rows.now (values_of column.values) stops.Never)) }
+    ensures ty { IfOk result (λ found. IfSome found (λ column. column.ty ≡ ty)) }
+{
+    if !is_quick(arg) {
+        return Ok(None);
+    }
+    let (all, all_stop) = eval_rows(alloc, arg, batch, rows)?;
+    join_all(alloc, early, ty, first, stop, &all, all_stop)
 }
 
 /// A call whose arguments are all evaluated, each at the rows before the stops of those before it.

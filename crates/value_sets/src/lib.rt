@@ -6,6 +6,6 @@ mod answers;
 mod constants;
 mod set;
 
-pub use answers::{answer, answers_are_denoted};
+pub use answers::{answer, answer_bytes, answer_int, answers_are_denoted};
 pub use constants::set_of_constants;
 pub use set::ValueSet;

@@ -4,6 +4,7 @@ ghost use Rattle.sub_types.specs.declared.value.Value.{Value};
 ghost use Rattle.plan_denote.specs.Order.{is_same};
 ghost use Rattle.std.specs.Prelude.{ℕ, List};
 ghost use Rattle.std.specs.Str.{bytes_eq};
+ghost use Rattle.sub_types.specs.declared.value.Value.TheVariants as values;
 ghost use Rattle.value_sets.specs.Sets.{has, has_text};
 
 use indexmap::IndexSet;
@@ -76,6 +77,27 @@ impl ValueSet {
             Value::Dec(number) => self.decimals.contains(number),
             Value::Bytes(bytes) => self.texts.contains(bytes.bytes()),
         }
+    }
+
+    /// Whether null is there.
+    pub fn contains_null(&self) -> bool
+        ensures { result ≡ has self.now values.Null }
+    {
+        self.has_null
+    }
+
+    /// Whether the integer is there.
+    pub fn contains_int(&self, number: i64) -> bool
+        ensures { result ≡ has self.now (values.Int number) }
+    {
+        self.ints.contains(&number)
+    }
+
+    /// Whether the bytes of a text or a binary are there, which need not be a value's.
+    pub fn contains_bytes(&self, bytes: &[u8]) -> bool
+        ensures { result ≡ has self.now (values.Bytes bytes.now) }
+    {
+        self.texts.contains(bytes)
     }
 }
 

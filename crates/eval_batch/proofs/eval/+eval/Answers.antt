@@ -36,7 +36,7 @@ use Rattle.batch_nodes.proofs.NodeUntil.{tried-none, chosen-none, if_conditions,
 use Rattle.batch_nodes.proofs.StepLaws.{IsEarlySoFar, AreUntil-length, early-none, early-end, columns-none}
 use Rattle.batch_nodes.proofs.StrictLaws.{until-length}
 use Rattle.batch_nodes.proofs.TypedLaws.{type_in}
-use Rattle.eval_batch.proofs.LoopLaws.{all_taken, holds_at, open_all, narrowed_result, nothing_in_kind, early_turn, early_called, columns_turn, tried_turn, chosen_turn, sought_turn, found_short}
+use Rattle.eval_batch.proofs.LoopLaws.{all_taken, holds_at, open_all, narrowed_result, nothing_in_kind, early_turn, early_called, columns_turn, tried_turn, chosen_turn, sought_turn, found_short, joined_whole}
 use Rattle.eval_batch.proofs.ValueLaws.{switch_long}
 use Rattle.eval_batch.proofs.eval.+eval.Goals as goal
 
@@ -81,6 +81,13 @@ early_step-join-requires-clause-first t c = ap (λ (one : Ty). one.kind) c.requi
 
 pub early_step-join-requires-clause-rest : goal.early_step-join-requires-clause-rest
 early_step-join-requires-clause-rest t c = subst (λ kind. IsOfKind kind c.in_ok-rest.rest) c.requires.kind c.in_ok-rest.ensures.kind
+
+pub quick_step-returns-clause-until : goal.quick_step-returns-clause-until
+quick_step-returns-clause-until t c =
+    joined_whole c.join_all.result c.args.early c.args.rows.now (values_of c.args.first.now.values) c.args.stop c.in_ok-all.all c.in_ok-all.all_stop (eval_at c.args.arg.now c.args.batch.now) c.in_ok-all.ensures.values c.in_ok-all.ensures.stop c.join_all.ensures.values
+
+pub early_step-returns-in-Some-clause-until : goal.early_step-returns-in-Some-clause-until
+early_step-returns-in-Some-clause-until t c = rw c.in-Some.is at c.in_ok-column.ensures.until
 
 pub early_step-returns-clause-until : goal.early_step-returns-clause-until
 early_step-returns-clause-until t c =
@@ -189,6 +196,12 @@ early_call-loop-arg-preserved t c =
       early_turn c.args.early c.args.batch.now c.args.rows.now c.args.args.now n c.arg-item.result _ _ there c.arg-item.is
           (c.in_ok-state.ensures.until (λ i. early_spec.so_far c.args.early (worth_at (take n c.args.args.now) c.args.batch.now i)) c.loop-arg.invariant.1),
     )
+
+pub quick_step-eval_rows-requires : goal.quick_step-eval_rows-requires
+quick_step-eval_rows-requires t c = (search (rules, the_lemmas), (c.requires.typed, (c.requires.fit, c.requires.exist)))
+
+pub early_step-quick_step-requires : goal.early_step-quick_step-requires
+early_step-quick_step-requires t c = (search (rules, the_lemmas), (c.requires.of, (c.requires.typed, (c.requires.fit, c.requires.exist))))
 
 pub early_step-eval_rows-requires : goal.early_step-eval_rows-requires
 early_step-eval_rows-requires t c =

@@ -5,7 +5,7 @@ use Rattle.sub_types.specs.declared.kind.Kind.TheVariants as kinds
 use Rattle.sub_types.specs.declared.kind.Ty.{Ty}
 use Rattle.value_sets.specs.Sets.{has}
 use Rattle.among_constants.proofs.UntilLaws.{answer_in_kind}
-use Rattle.among_constants.proofs.answers.Goals as goal
+use Rattle.among_constants.proofs.value_answers.Goals as goal
 
 pub push-requires : goal.push-requires
 push-requires c =

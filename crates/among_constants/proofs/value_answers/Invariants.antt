@@ -1,7 +1,7 @@
 use Rattle.std.proofs.Common.{◌≡◌, map, take}
 use Rattle.batch_nodes.specs.Found.{found_values}
 use Rattle.value_sets.specs.Sets.{answer_by, has}
-use Rattle.among_constants.proofs.answers.Given as goal
+use Rattle.among_constants.proofs.value_answers.Given as goal
 
 -- what is said of the values so far
 abbrev pub invariant-loop-i : goal.invariant-loop-i

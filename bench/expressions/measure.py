@@ -1,0 +1,60 @@
+#!/usr/bin/env python3
+"""Measures expressions at all rows of a batch beside the same loops over slices in plain Rust: `python3 bench/expressions/measure.py`.
+It builds expressions.txt as bench/columns/measure.py does, and expressions.rs by rustc -O. Each work's time is the processor time
+of a process that does it 21 times, less that of one that does it once, by 20, so that other work on the machine counts less; the
+least of five, both programs in turn."""
+import importlib.util
+import os
+import subprocess
+import sys
+import tempfile
+
+HERE = os.path.dirname(os.path.abspath(__file__))
+COLUMNS = os.path.join(os.path.dirname(HERE), "columns", "measure.py")
+TIMES = 20
+RUNS = 5
+WORKS = ("compare with a constant", "compare two columns", "`and` of two comparisons", "add, overflow a fault",
+         "multiply by a constant", "filter half", "sum")
+
+
+def spent(command, work, times):
+    """The processor time of a process that does a work so many times, in microseconds."""
+    process = subprocess.Popen(command + [str(work), str(times)], stdout=subprocess.DEVNULL)
+    _, status, used = os.wait4(process.pid, 0)
+    process.returncode = status
+    if status != 0:
+        raise SystemExit(f"work {work}: the program ended with {status}")
+    return (used.ru_utime + used.ru_stime) * 1e6
+
+
+def once(command, work):
+    return (spent(command, work, TIMES + 1) - spent(command, work, 1)) / TIMES
+
+
+def main():
+    spec = importlib.util.spec_from_file_location("columns_measure", COLUMNS)
+    measure = importlib.util.module_from_spec(spec)
+    spec.loader.exec_module(measure)
+    measure.HERE = HERE
+    measure.NAME = "expressions_speed"
+    measure.USES = ("anyhow sub_types plan_leaves plan_typed func_table well_typed plan_denote eval_typed col_fixed col_text batch "
+                    "text_match kernels call_kernels eval_values eval_row batch_nodes batch_calls value_sets among_constants "
+                    "indexmap simdutf8 eval_batch")
+    with tempfile.TemporaryDirectory() as scratch:
+        folder = os.path.join(scratch, "linked")
+        measure.linked(measure.workspace(scratch, "expressions"), folder)
+        ours = measure.build(folder)
+        theirs = [os.path.join(scratch, "plain")]
+        subprocess.run(["rustc", "-O", "-C", "target-cpu=x86-64-v2", "-o", theirs[0], os.path.join(HERE, "expressions.rs")], check=True)
+        works = [(k, WORKS[k % 7] + (", nulls" if k > 6 else "")) for k in range(14)] + [(14, "contains")]
+        print("microseconds here, in plain Rust, ratio")
+        for work, name in works:
+            here, plain = [], []
+            for _ in range(RUNS):
+                here.append(once(ours, work))
+                plain.append(once(theirs, work))
+            print(f"{name}: {min(here):.0f} {min(plain):.0f} {min(here) / min(plain):.2f}", flush=True)
+
+
+if __name__ == "__main__":
+    sys.exit(main())
