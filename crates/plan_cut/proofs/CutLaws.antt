@@ -1,5 +1,5 @@
 -- What each kind of relation adds to the pipelines of its inputs.
-use Rattle.std.proofs.Common.{◌≡◌, ◌∙◌, ℕ, ◌+◌, ◌-◌, ◌<◌, List, [], ◌∷◌, ◌++◌, Option, Some, None, map, length, take, get_or, refl, sym, ap, subst, arith, append_assoc}
+use Rattle.std.proofs.Common.{◌≡◌, ◌∙◌, ℕ, ◌+◌, ◌-◌, ◌<◌, ◌≤◌, List, [], ◌∷◌, ◌++◌, Option, Some, None, map, length, take, get_or, refl, sym, ap, subst, arith, append_assoc}
 use Rattle.std.proofs.lemmas.Grind.{flat_map-append}
 use Rattle.std.proofs.lemmas.List.{take_more, append-nil, map-append, length-append, length-map}
 use Rattle.std.specs.Prelude.{slice_index_or}
@@ -21,10 +21,12 @@ use Rattle.plan_typed.specs.declared.rel.Op.TheVariants as ops
 use Rattle.plan_typed.specs.declared.rel.Rel.{Rel, out-Rel}
 use Rattle.plan_typed.specs.Types.{columns_of}
 use Rattle.plan_typed.specs.Types.{ty_of}
-use Rattle.well_typed.specs.Columns.{columns_at as types_at, join_columns, group_type, number_column}
+use Rattle.well_typed.specs.Columns.{MAX_GROUPINGS, columns_at as types_at, join_columns, group_type, number_column}
 use Rattle.well_typed.specs.ExprTyped.{IsTypedOver, HasOne}
 use Rattle.well_typed.specs.WellTyped.{IsRelation, AreTyped, HasParts, IsConditionOver, MayBe, AreAll, AreBelow, IsMeasureOver, IsSetMeasureOver, direct_in, set_columns_of}
 use Rattle.well_typed.proofs.MadeRel.{all_same}
+use Rattle.well_typed.proofs.ValidColumns.{typed_columns}
+use Rattle.sub_types.specs.Kind.{IsKind}
 use Rattle.std.specs.List.{enumerate_from}
 use Rattle.plan_denote.specs.Rows.{Row}
 use Rattle.plan_denote.specs.Eval.{eval}
@@ -56,7 +58,7 @@ use Rattle.cut_flows.specs.declared.flow.Flow.{Flow}
 use Rattle.cut_flows.specs.Given.{flow_in, last_stream, fed_by, fed_in}
 use Rattle.cut_laws.specs.Keys.{HasColumns}
 use Rattle.cut_laws.specs.Reads.{GivesAt, ReadGives, ReadsGive, HasAt, ReadHas, ReadsHave, reads_of, reads_of_op, Inputs}
-use Rattle.plan_cut.specs.Cut.{IsCut, IsOpCut, IsBuilt, IsProbed, IsJoinCut, AreCut, EndsInGather}
+use Rattle.plan_cut.specs.Cut.{IsCut, IsOpCut, IsBuilt, IsProbed, IsJoinCut, AreCut, EndsInGather, IsBuildable, IsMet, AreMet}
 use Rattle.cut_flows.specs.Flows.{flow_from, feed_of, with_step, pipe_of, build_of, read_flow, filter_flow, post_flow, project_flow, keep_flow, sort_of, sorted_flow}
 use Rattle.cut_flows.specs.Tables.{tables_in}
 use Rattle.cut_flows.proofs.FlowLaws.{flow_step, flow_next, table_built, streams_stay, not_grown, grown_on, grown_last, fed_last}
@@ -68,6 +70,11 @@ use Rattle.cut_laws.proofs.StreamLaws.{filtered_always, joined_whole, join_is, c
 -- the tables that were built after pipelines
 abbrev tables_after : Tables → List Pipe → List Table
 tables_after inputs pipes = (run (rows_over inputs) pipes).tables
+
+-- one pipeline more
+met_last : (pipes : List Pipe) (pipe : Pipe) → AreMet pipes → IsMet pipe.breaker → AreMet (pipes ++ pipe ∷ [])
+met_last [] pipe all here = (here, tt)
+met_last (first ∷ pipes) pipe all here = (all.0, met_last pipes pipe all.1 here)
 
 -- a relation emits some of the columns of what it does
 pub rel_cut : (rel : Rel) (before now : List Pipe) (given : Flow) → IsOpCut (out-Rel rel).number (out-Rel rel).op before now given → IsCut rel before now (keep_flow given (out-Rel rel).emit)
@@ -85,6 +92,7 @@ rel_cut rel before now given cut = record {
         typed_step columns now given (steps.Keep (out-Rel rel).emit) (columns_of rel)
             (record { types = direct_in (out-Op (out-Rel rel).op); input = direct.1; places = here.1.places; as_implied = here.1.as_implied }),
       );
+  met = λ typed all. cut.met (held_here IsRelation rel typed).0 (held_below IsRelation rel typed) all;
 }
 
 -- the inputs of an operation, by what it is rolled from
@@ -111,6 +119,7 @@ read_cut number source names types filter mask before = record {
             (typed_step columns before (flow_from (feeds.Read number)) (steps.Read number names types filter mask) (types_at types mask)
             (record { input = subst (HasAt columns number) is has; kinds = over.1; condition = over.3; places = over.4; is = refl })),
       );
+  met = λ parts inputs all. all;
 }
 
 -- an operation over one input
@@ -140,13 +149,15 @@ module _ (number : ℕ) (op : Op) (input : Rel) (level : Op-F Op Rel) (rolls : r
           subst (λ (one : Op-F Op Rel). flow_in (types_over columns) now (with_step given step) (direct_in one)) (sym is)
               (typed_step columns now given step (direct_in level) (by (flow_in (types_over columns) now given) (run (types_over columns) now).tables (subst HasParts is parts) first.1)),
         );
+    met = λ parts inputs all. cut.met (only AreTyped (below AreTyped level op rolls inputs)) all;
   }
 
   -- by a breaker
   one_breaker : (breaker : Breaker) → ((tables : Tables) → gathered breaker (denote tables input) ≡ direct tables op number)
       → ((before : Typing) → HasParts level → before (columns_of input) → type_gathered breaker before (direct_in level))
+      → (HasParts level → IsMet breaker)
       → (before now : List Pipe) (given : Flow) → IsCut input before now given → IsOpCut number op before (now ++ pipe_of given breaker ∷ []) (flow_from (feed_of (length now)))
-  one_breaker breaker same by before now given cut = record {
+  one_breaker breaker same by meets before now given cut = record {
     grown = grown_last (pipe_of given breaker) cut.grown;
     rows = λ tables inputs here all.
         flow_next (rows_over inputs) now given breaker ∙ ap (gathered breaker) (cut.rows tables inputs (input_gives tables inputs all)) ∙ same tables;
@@ -159,6 +170,7 @@ module _ (number : ℕ) (op : Op) (input : Rel) (level : Op-F Op Rel) (rolls : r
           typed_last columns now given breaker (direct_in level) first.0 last,
           subst (λ (one : Op-F Op Rel). flow_in (types_over columns) (now ++ pipe_of given breaker ∷ []) (flow_from (feed_of (length now))) (direct_in one)) (sym is) (typed_next columns now given breaker (direct_in level) last),
         );
+    met = λ parts inputs all. met_last now (pipe_of given breaker) (cut.met (only AreTyped (below AreTyped level op rolls inputs)) all) (meets (subst HasParts (opened level op rolls) parts));
   }
 
 pub filter_cut : (number : ℕ) (input : Rel) (condition : Expr) (before now : List Pipe) (given : Flow) → IsCut input before now given → IsOpCut number (ops.Filter input condition) before now (filter_flow given number condition)
@@ -175,7 +187,7 @@ pub fetch_cut : (number : ℕ) (input : Rel) (offset : ℕ) (count : Option ℕ)
     → IsOpCut number (ops.Fetch input offset count) before (now ++ pipe_of given (breakers.Fetch offset count) ∷ []) (flow_from (feed_of (length now)))
 fetch_cut number input offset count =
     one_breaker number (ops.Fetch input offset count) input (Op-F.Fetch input offset count) (rolls-Fetch input offset count) (λ P all. all) (of_Fetch input offset count number)
-    (breakers.Fetch offset count) (λ tables. sym (direct-Fetch tables input offset count number)) (λ typing parts typed. typed)
+    (breakers.Fetch offset count) (λ tables. sym (direct-Fetch tables input offset count number)) (λ typing parts typed. typed) (λ parts. tt)
 
 pub aggregate_cut : (number : ℕ) (input : Rel) (groups : List Expr) (measures : List TypedMeasure) (spec : AggSpec) → spec.relation ≡ number → spec.groups.items ≡ groups → spec.measures.items ≡ measures
     → (before now : List Pipe) (given : Flow) → IsCut input before now given
@@ -191,6 +203,7 @@ aggregate_cut number input groups measures spec its_number its_groups its_measur
       measures = subst (AllByRecursion (IsMeasureOver (columns_of input))) (sym its_measures) parts.1;
       is = sym (λ i. map ty_of (its_groups i) ++ map (λ (one : TypedMeasure). one.ty) (its_measures i));
     })
+    (λ parts. tt)
 
 pub grouping_cut : (number : ℕ) (input : Rel) (groups : List Expr) (sets : List (List ℕ)) (measures : List SetMeasure) (spec : SetSpec)
     → spec.relation ≡ number → spec.groups.items ≡ groups → sets_of spec ≡ sets → spec.measures.items ≡ measures
@@ -209,6 +222,7 @@ grouping_cut number input groups sets measures spec its_number its_groups its_se
       measures = subst (AllByRecursion (IsSetMeasureOver (columns_of input))) (sym its_measures) parts.4;
       is = sym (λ i. map (group_type (its_sets i)) (enumerate_from 0 (its_groups i)) ++ map (λ (one : SetMeasure). one.measure.ty) (its_measures i) ++ number_column (its_sets i));
     })
+    (λ parts. subst (λ (all : List (List ℕ)). length all ≤ MAX_GROUPINGS) (sym its_sets) parts.3)
 
 -- each row has as many columns as are emitted
 wide_rows : (emit : List ℕ) (rows : List Row) → AllByRecursion (λ row. length row ≡ length emit) (map (columns_at emit) rows)
@@ -271,6 +285,7 @@ sort_cut number input keys before now given cut =
                   as_implied = subst (λ (own : List Ty). AreAll own types) (sym (own_columns types more width is)) (all_same types);
                 })),
           );
+      met = λ parts inputs all. met_last now pipe (cut.met (below AreTyped (Op-F.Sort input keys) (ops.Sort input keys) (rolls-Sort input keys) inputs) all) tt;
     }
 
 -- a join before its post-join filter
@@ -308,6 +323,7 @@ joined_cut left right join before middle now rights lefts first second =
             typed_step columns now lefts (steps.Probe (tables_in middle)) types
                 (record { types = columns_of left; input = given.1; join = subst (λ (one : JoinTyping). one (columns_of left) types) (sym is) joins }),
           );
+      met = λ buildable left_typed right_typed all. second.met left_typed (met_last middle build (first.met right_typed all) buildable);
     }
 
 -- the post-join filter
@@ -344,6 +360,17 @@ spec_rest number kind left right on join is condition =
     let rest = subst (AllByRecursion (IsConditionOver (columns_of left ++ columns_of right))) (sym is.rest_is) (rest_typed (columns_of left) (columns_of right) on condition) in
     subst (λ (types : List Ty). AllByRecursion (IsConditionOver types) join.rest.items) (sym (λ i. is.left_is i ++ is.right_is i)) rest
 
+-- a table can be built for a well-typed join, and for a cross
+same_kinds : (types given : List Ty) → types ≡ given → AllByRecursion (λ (ty : Ty). IsKind ty.kind) given → AllByRecursion (λ (ty : Ty). IsKind ty.kind) types
+same_kinds types given is all = subst (AllByRecursion (λ (ty : Ty). IsKind ty.kind)) (sym is) all
+
+buildable : (left right : Rel) (join : JoinSpec) → join.left.items ≡ columns_of left → join.right.items ≡ columns_of right → AllByRecursion (IsKeyOver join.left.items join.right.items) join.keys.items → AreTyped left → AreTyped right → IsBuildable join
+buildable left right join at_left at_right keys first second = record {
+  left_kinds = same_kinds join.left.items (columns_of left) at_left (typed_columns left first);
+  right_kinds = same_kinds join.right.items (columns_of right) at_right (typed_columns right second);
+  keys = keys;
+}
+
 pub join_cut : (number : ℕ) (left right : Rel) (kind : JoinKind) (on : Expr) (post : Option Expr) (join : JoinSpec) → IsJoinSpec number kind (columns_of left) (columns_of right) on join
     → (before now : List Pipe) (given : Flow) → IsJoinCut left right join before now given → IsOpCut number (ops.Join left right kind on post) before now (post_flow given number post)
 join_cut number left right kind on post join is before now given cut = record {
@@ -368,6 +395,12 @@ join_cut number left right kind on post join is before now given cut = record {
             (post_typed columns now given number post (join_columns kind (columns_of left) (columns_of right)) over.1
             (subst (λ (one : JoinKind). flow_in (types_over columns) now given (join_columns one (columns_of left) (columns_of right))) is.kind_is found.1)),
       );
+  met = λ parts inputs all.
+      let level = Op-F.Join left right kind on post in
+      let op = ops.Join left right kind on post in
+      let over = subst HasParts (opened level op (rolls-Join left right kind on post)) parts in
+      let inside = below AreTyped level op (rolls-Join left right kind on post) inputs in
+      cut.met (buildable left right join is.left_is is.right_is (spec_keys number kind left right on join is over.0) inside.0 inside.1) inside.0 inside.1 all;
 }
 
 pub cross_cut : (number : ℕ) (left right : Rel) (join : JoinSpec) → IsCrossSpec number (columns_of left) (columns_of right) join
@@ -391,6 +424,10 @@ cross_cut number left right join is before now given cut = record {
         subst (λ (one : Op-F Op Rel). flow_in (types_over columns) now given (direct_in one)) (sym (opened level op (rolls-Cross left right)))
             (subst (λ (one : JoinKind). flow_in (types_over columns) now given (join_columns one (columns_of left) (columns_of right))) is.kind_is found.1),
       );
+  met = λ parts inputs all.
+      let inside = below AreTyped (Op-F.Cross left right) (ops.Cross left right) (rolls-Cross left right) inputs in
+      let keys = subst (AllByRecursion (IsKeyOver join.left.items join.right.items)) (sym is.keys_are) tt in
+      cut.met (buildable left right join is.left_is is.right_is keys inside.0 inside.1) inside.0 inside.1 all;
 }
 
 pub set_cut : (number : ℕ) (inputs : List Rel) (op : SetOp) (types : List Ty) (before now : List Pipe) (places : List ℕ) → types ≡ set_columns_of op (map columns_of inputs) → AreCut inputs before now places
@@ -410,6 +447,7 @@ set_cut number rels op types before now places types_are cut = record {
         subst (λ (to : Op-F Op Rel). flow_in (types_over columns) now (flow_from (feeds.Set op places types)) (direct_in to)) (sym opens)
             (record { each = map columns_of rels; have = found.1; alike = subst HasParts opens parts; direct = types_are; is = sym types_are }),
       );
+  met = λ parts inputs all. cut.met (below AreTyped (Op-F.Set rels op) (ops.Set rels op) (rolls-Set rels op) inputs) all;
 }
 
 all_first : (P : Rel → Type 0) (xs : List Rel) (x : Rel) → AllByRecursion P (xs ++ x ∷ []) → AllByRecursion P xs × P x
@@ -467,6 +505,9 @@ next_cut rels rel before middle now places given first second =
                 (have_last (map (stream_at m streams) places) (map columns_of rels) (stream_at m streams (length now)) (columns_of rel)
                 (subst (λ (every : List Typing). HaveTypes every (map columns_of rels)) (sym stays) earlier.1) last)),
           );
+      met = λ all before_met.
+          let some = all_first AreTyped rels rel all in
+          met_last now pipe (second.met some.1 (first.met some.0 before_met)) tt;
     }
 
 -- the whole plan
@@ -494,6 +535,9 @@ module _ (rel : Rel) (now : List Pipe) (given : Flow) (cut : IsCut rel [] now gi
       let at : length whole - 1 ≡ length now = omega (arith, length-append now (pipe_of given breakers.Gather ∷ [])) in
       let found = cut.typed columns typed has (λ at there. absurd (omega (arith, there))) in
       subst (λ (typing : Typing). typing (columns_of rel)) (sym (ap (stream_at m (run m whole).streams) at ∙ last_gathered m now (pipe_of given breakers.Gather))) found.1
+
+  pub whole_met : AreTyped rel → AreMet whole
+  whole_met typed = met_last now (pipe_of given breakers.Gather) (cut.met typed tt) tt
 
   pub whole_reads : fed_in whole ≡ reads_of rel
   whole_reads = fed_last now given breakers.Gather ∙ cut.reads
@@ -552,9 +596,10 @@ pub record IsWhole (rel : Rel) (pipes : List Pipe) : Type 0 where
   pub rows : (tables inputs : Tables) → ReadsGive tables inputs rel → last_stream (rows_over inputs) pipes ≡ denote tables rel
   pub reads : fed_in pipes ≡ reads_of rel
   pub typed : (columns : ℕ → List Ty) → AreTyped rel → ReadsHave columns rel → AreTypedPipes columns pipes
+  pub met : AreTyped rel → AreMet pipes
   pub columns : (columns : ℕ → List Ty) → AreTyped rel → ReadsHave columns rel → last_stream (types_over columns) pipes (columns_of rel)
 
 pub whole_plan : (rel : Rel) (start now pipes : List Pipe) (given : Flow) → start ≡ [] → pipes ≡ now ++ pipe_of given breakers.Gather ∷ [] → IsCut rel start now given → IsWhole rel pipes
 whole_plan rel start now pipes given first is cut =
     let own = subst (λ (all : List Pipe). IsCut rel all now given) first cut in
-    subst (IsWhole rel) (sym is) (record { some = some_pipe rel now given own; last = record { before = now; last = pipe_of given breakers.Gather; is = refl; gathers = refl }; rows = last_rows_are rel now given own; reads = whole_reads rel now given own; typed = whole_typed rel now given own; columns = last_columns_are rel now given own })
+    subst (IsWhole rel) (sym is) (record { some = some_pipe rel now given own; last = record { before = now; last = pipe_of given breakers.Gather; is = refl; gathers = refl }; rows = last_rows_are rel now given own; reads = whole_reads rel now given own; typed = whole_typed rel now given own; met = whole_met rel now given own; columns = last_columns_are rel now given own })

@@ -31,6 +31,7 @@ pub fn cut(alloc: Global, typed: &Typed) -> Result<Vec<Pipe>, NoMemory>
     ensures rows { IfOk result (λ pipes. (tables inputs : Tables) → ReadsGive tables inputs typed.now.rel → last_stream (rows_over inputs) pipes.items ≡ denote tables typed.now.rel) }
     ensures reads { IfOk result (λ pipes. fed_in pipes.items ≡ reads_of typed.now.rel) }
     ensures typed { IfOk result (λ pipes. (columns : ℕ → List Ty) → AreTyped typed.now.rel → ReadsHave columns typed.now.rel → AreTypedPipes columns pipes.items) }
+    ensures met { IfOk result (λ pipes. AreTyped typed.now.rel → spec.AreMet pipes.items) }
     ensures columns { IfOk result (λ pipes. (columns : ℕ → List Ty) → AreTyped typed.now.rel → ReadsHave columns typed.now.rel → last_stream (types_over columns) pipes.items (columns_of typed.now.rel)) }
 {
     let mut pipes = Pipes::new(alloc);
