@@ -1,11 +1,13 @@
 -- Prefixes order rows as their keys do, as far as they tell them apart.
-use Rattle.std.proofs.Common.{◌≡◌, ◌∙◌, ℕ, zero, suc, ℤ, pos, negsuc, ◌<◌, ◌≤◌, ◌+◌, ◌^◌, List, [], ◌∷◌, Bool, true, false, cond, map, drop, refl, sym, ap, subst, arith}
+use Rattle.std.proofs.Common.{◌≡◌, ◌∙◌, ℕ, zero, suc, ℤ, pos, negsuc, ◌<◌, ◌≤◌, ◌+◌, ◌-◌, ◌^◌, List, [], ◌∷◌, Bool, true, false, cond, map, drop, refl, sym, ap, subst, arith}
 use Rattle.std.specs.Cmp.{IsTotalOrder}
 use Rattle.std.specs.List.{AllByRecursion, range_with_len}
 use Rattle.std.specs.Ordering.{int_cmp, nat_cmp, bool_cmp, on, ordering_then, ordering_reverse, MatchOrdering}
 use Rattle.std.specs.declared.cmp.Ordering.{Ordering}
 use Rattle.std.specs.declared.cmp.Ordering.TheVariants.{Less, Equal, Greater}
-use Rattle.std.proofs.lemmas.Bool.{lt-ltb}
+use Rattle.std.proofs.Math.Pow.{shr_mono}
+use Rattle.std.proofs.Math.Dec.{leb}
+use Rattle.std.proofs.lemmas.Bool.{lt-ltb, leb-true, leb-false}
 use Rattle.std.proofs.lemmas.Cmp.{ranked, nat_cmp_total, on_total, then_total}
 use Rattle.sub_types.specs.declared.value.Value.{Value}
 use Rattle.sub_types.specs.declared.value.Value.TheVariants as values
@@ -20,8 +22,9 @@ use Rattle.plan_denote.proofs.OrderLaws.{key_cmp_total}
 use Rattle.plan_denote.proofs.SortLaws.{arrangement, is_arranged}
 use Rattle.plan_pipes.specs.RowMeaning.{keyed_by, direction_in}
 use Rattle.rel_specs.specs.declared.key_order.KeyOrder.{KeyOrder}
-use Rattle.sort_merge.specs.Prefix.{most, int_prefix, value_prefix, null_prefix, sized_prefix, key_prefix, packed, prefix_of, row_of, prefixed_at, prefixed_cmp}
+use Rattle.sort_merge.specs.Prefix.{most, int_prefix, value_prefix, null_prefix, sized_prefix, key_prefix, shortened, packed, prefix_of, row_of, prefixed_at, prefixed_cmp}
 use Rattle.sort_merge.specs.RowOrder.{row_cmp, place_cmp}
+use Rattle.sort_merge.specs.declared.scale.Scale.{Scale}
 use Rattle.sort_merge.proofs.ArrangedLaws.{map-arranged, arranged_alike}
 use Rattle.sort_merge.proofs.OrderLaws.{by_rows, place_total}
 use Rattle.sort_merge.proofs.RowLaws.{key_at}
@@ -104,16 +107,31 @@ decided m n o less greater = by (nat_cmp m n) (ranked m n (nat_cmp m n) refl)
     by Equal is = refl
     by Greater is = sym (greater is)
 
-key_decided : (directions : List Direction) (x y : List Value) → ordering_then (nat_cmp (key_prefix directions x) (key_prefix directions y)) (key_cmp directions x y) ≡ key_cmp directions x y
-key_decided directions x y =
-    decided (key_prefix directions x) (key_prefix directions y) (key_cmp directions x y) (key_up directions x y) (λ down.
-    (key_cmp_total directions).antisymm x y ∙ ap ordering_reverse (key_up directions y x down))
+-- what is less on a scale is less
+short_up : (scale : Scale) (m n : ℕ) → shortened scale m < shortened scale n → m < n
+short_up scale m n up = less (leb n m) refl
+  where
+    less : (test : Bool) → leb n m ≡ test → m < n
+    less true down =
+        let below : n ≤ m = leb-true n m down in
+        let low : n - scale.least ≤ m - scale.least = omega arith in
+        absurd (omega (arith, up, shr_mono scale.shift low))
+    less false down = omega (arith, leb-false n m down)
 
-module _ (keys : List KeyOrder) (is_there : ℕ → Bool) (row_at : ℕ → Row) where
+short_key_up : (scale : Scale) (directions : List Direction) (x y : List Value) → shortened scale (key_prefix directions x) < shortened scale (key_prefix directions y) → key_cmp directions x y ≡ Less
+short_key_up scale directions x y up = key_up directions x y (short_up scale (key_prefix directions x) (key_prefix directions y) up)
+
+key_decided : (scale : Scale) (directions : List Direction) (x y : List Value)
+    → ordering_then (nat_cmp (shortened scale (key_prefix directions x)) (shortened scale (key_prefix directions y))) (key_cmp directions x y) ≡ key_cmp directions x y
+key_decided scale directions x y =
+    decided (shortened scale (key_prefix directions x)) (shortened scale (key_prefix directions y)) (key_cmp directions x y) (short_key_up scale directions x y) (λ down.
+    (key_cmp_total directions).antisymm x y ∙ ap ordering_reverse (short_key_up scale directions y x down))
+
+module _ (scale : Scale) (keys : List KeyOrder) (is_there : ℕ → Bool) (row_at : ℕ → Row) where
   -- a row is there, and this is its prefix
   pub record IsPrefixed (one : ℕ) : Type 0 where
     pub here : is_there (row_of one) ≡ true
-    pub prefix : prefix_of one ≡ key_prefix (map direction_in keys) (keyed_by keys (row_at (row_of one))).0
+    pub prefix : prefix_of one ≡ shortened scale (key_prefix (map direction_in keys) (keyed_by keys (row_at (row_of one))).0)
 
   pub prefixed_total : IsTotalOrder (prefixed_cmp keys is_there row_at)
   prefixed_total = then_total (on_total prefix_of nat_cmp_total) (on_total row_of (place_total keys is_there row_at))
@@ -123,8 +141,8 @@ module _ (keys : List KeyOrder) (is_there : ℕ → Bool) (row_at : ℕ → Row)
       let same = by_rows keys is_there row_at (row_of x) (row_of y) first.here second.here in
       ap (ordering_then (nat_cmp (prefix_of x) (prefix_of y))) same
       ∙ ap (λ n. ordering_then (nat_cmp n (prefix_of y)) (row_cmp keys (row_at (row_of x)) (row_at (row_of y)))) first.prefix
-      ∙ ap (λ n. ordering_then (nat_cmp (key_prefix (map direction_in keys) (keyed_by keys (row_at (row_of x))).0) n) (row_cmp keys (row_at (row_of x)) (row_at (row_of y)))) second.prefix
-      ∙ key_decided (map direction_in keys) (keyed_by keys (row_at (row_of x))).0 (keyed_by keys (row_at (row_of y))).0
+      ∙ ap (λ n. ordering_then (nat_cmp (shortened scale (key_prefix (map direction_in keys) (keyed_by keys (row_at (row_of x))).0)) n) (row_cmp keys (row_at (row_of x)) (row_at (row_of y)))) second.prefix
+      ∙ key_decided scale (map direction_in keys) (keyed_by keys (row_at (row_of x))).0 (keyed_by keys (row_at (row_of y))).0
       ∙ sym same
 
   -- the places of rows in order by their prefixes and keys are the places in order by the rows
@@ -139,41 +157,40 @@ module _ (keys : List KeyOrder) (is_there : ℕ → Bool) (row_at : ℕ → Row)
       subst (IsArrangement cmp (map row_of rows)) (sym places) (arrangement cmp (place_total keys is_there row_at) (map row_of rows))
 
 -- the parts of a packed number
-pub prefix_packed : (prefix row : ℕ) → row < 2 ^ 64 → prefix_of (packed prefix row) ≡ prefix
+pub prefix_packed : (prefix row : ℕ) → row < 2 ^ 32 → prefix_of (packed prefix row) ≡ prefix
 prefix_packed prefix row below = omega arith
 
-row_packed : (prefix row : ℕ) → row < 2 ^ 64 → row_of (packed prefix row) ≡ row
+row_packed : (prefix row : ℕ) → row < 2 ^ 32 → row_of (packed prefix row) ≡ row
 row_packed prefix row below = omega arith
 
-module _ (keys : List KeyOrder) (batch : Batch) (few : batch.rows ≤ 2 ^ 64) where
-  all_from : (a n : ℕ) → a + n ≤ batch.rows → AllByRecursion (IsPrefixed keys (has_row batch) (row_at batch)) (map (prefixed_at keys batch) (range_with_len a n))
+module _ (scale : Scale) (keys : List KeyOrder) (batch : Batch) (few : batch.rows ≤ 2 ^ 32) where
+  all_from : (a n : ℕ) → a + n ≤ batch.rows → AllByRecursion (IsPrefixed scale keys (has_row batch) (row_at batch)) (map (prefixed_at scale keys batch) (range_with_len a n))
   all_from a zero within = tt
   all_from a (suc n) within =
-      let below : a < 2 ^ 64 = omega arith in
-      let prefix = key_prefix (map direction_of keys) (sort_key_of keys batch a) in
+      let below : a < 2 ^ 32 = omega arith in
+      let prefix = shortened scale (key_prefix (map direction_of keys) (sort_key_of keys batch a)) in
       let row = row_packed prefix a below in (
         record {
           here = ap (has_row batch) row ∙ lt-ltb a batch.rows (omega arith);
           prefix =
               prefix_packed prefix a below
-              ∙ ap (key_prefix (map direction_in keys)) (sym (key_at keys batch a (omega arith)))
-              ∙ ap (λ i. key_prefix (map direction_in keys) (keyed_by keys (row_at batch i)).0) (sym row);
+              ∙ ap (λ key. shortened scale (key_prefix (map direction_in keys) key)) (sym (key_at keys batch a (omega arith)))
+              ∙ ap (λ i. shortened scale (key_prefix (map direction_in keys) (keyed_by keys (row_at batch i)).0)) (sym row);
         },
         all_from (a + 1) n (omega arith),
       )
 
-  rows_from : (a n : ℕ) → a + n ≤ batch.rows → map row_of (map (prefixed_at keys batch) (range_with_len a n)) ≡ range_with_len a n
+  rows_from : (a n : ℕ) → a + n ≤ batch.rows → map row_of (map (prefixed_at scale keys batch) (range_with_len a n)) ≡ range_with_len a n
   rows_from a zero within = refl
   rows_from a (suc n) within =
-      ap (λ row. row ∷ map row_of (map (prefixed_at keys batch) (range_with_len (a + 1) n))) (row_packed (key_prefix (map direction_of keys) (sort_key_of keys batch a)) a (omega arith))
+      ap (λ row. row ∷ map row_of (map (prefixed_at scale keys batch) (range_with_len (a + 1) n))) (row_packed (shortened scale (key_prefix (map direction_of keys) (sort_key_of keys batch a))) a (omega arith))
       ∙ ap (λ rest. a ∷ rest) (rows_from (a + 1) n (omega arith))
 
   -- the rows of a batch in order by their prefixes and keys are at the places of the rows in order
-  pub rows_in_order : (rows ordered places : List ℕ) → rows ≡ map (prefixed_at keys batch) (range_with_len 0 batch.rows) → IsArrangement (prefixed_cmp keys (has_row batch) (row_at batch)) rows ordered → places ≡ map row_of ordered
+  pub rows_in_order : (ordered places : List ℕ) → IsArrangement (prefixed_cmp keys (has_row batch) (row_at batch)) (map (prefixed_at scale keys batch) (range_with_len 0 batch.rows)) ordered → places ≡ map row_of ordered
       → IsArrangement (place_cmp keys (has_row batch) (row_at batch)) (range_with_len 0 batch.rows) places
-  rows_in_order rows ordered places all is given =
-      let each = subst (AllByRecursion (IsPrefixed keys (has_row batch) (row_at batch))) (sym all) (all_from 0 batch.rows (omega arith)) in
-      let done = places_in_order keys (has_row batch) (row_at batch) rows ordered each is in
-      let from : map row_of rows ≡ range_with_len 0 batch.rows = ap (map row_of) all ∙ rows_from 0 batch.rows (omega arith) in
-      subst (λ start. IsArrangement (place_cmp keys (has_row batch) (row_at batch)) start places) from
+  rows_in_order ordered places is given =
+      let rows = map (prefixed_at scale keys batch) (range_with_len 0 batch.rows) in
+      let done = places_in_order scale keys (has_row batch) (row_at batch) rows ordered (all_from 0 batch.rows (omega arith)) is in
+      subst (λ start. IsArrangement (place_cmp keys (has_row batch) (row_at batch)) start places) (rows_from 0 batch.rows (omega arith))
       (subst (IsArrangement (place_cmp keys (has_row batch) (row_at batch)) (map row_of rows)) (sym given) done)

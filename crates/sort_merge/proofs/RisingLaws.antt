@@ -1,7 +1,7 @@
 -- Rows that tie rise in their numbers, so that they stand as they stood after the numbers were put in order.
 use Rattle.std.proofs.Common.{◌≡◌, ◌∙◌, ℕ, zero, suc, ◌<◌, ◌≤◌, ◌+◌, ◌^◌, List, [], ◌∷◌, Bool, true, false, cond, not, ◌&&◌, map, refl, sym, ap, subst, arith}
 use Rattle.std.specs.List.{AllByRecursion, filter, range_with_len}
-use Rattle.std.specs.List.Sorted.{ties}
+use Rattle.std.specs.List.Sorted.{ties, IsSortedBy}
 use Rattle.std.specs.Ordering.{is_lt, is_gt, nat_cmp, ordering_then, MatchOrdering}
 use Rattle.std.specs.declared.cmp.Ordering.{Ordering}
 use Rattle.std.specs.declared.cmp.Ordering.TheVariants.{Less, Equal, Greater}
@@ -12,8 +12,9 @@ use Rattle.row_keys.specs.Keys.{sort_key_of, direction_of}
 use Rattle.plan_denote.specs.Sort.{IsArrangement, placed, arranged}
 use Rattle.plan_denote.proofs.SortLaws.{is_arranged}
 use Rattle.rel_specs.specs.declared.key_order.KeyOrder.{KeyOrder}
-use Rattle.sort_merge.specs.Prefix.{key_prefix, packed, prefix_of, row_of, prefixed_at, prefixed_cmp}
+use Rattle.sort_merge.specs.Prefix.{key_prefix, shortened, packed, prefix_of, row_of, prefixed_at, prefixed_cmp}
 use Rattle.sort_merge.specs.RowOrder.{place_cmp}
+use Rattle.sort_merge.specs.declared.scale.Scale.{Scale}
 use Rattle.sort_merge.proofs.PrefixLaws.{prefix_packed}
 
 -- each number is at most those behind it
@@ -100,7 +101,12 @@ tied_by m n one other Greater Less is back e = absurd (cc)
 tied_by m n one other Greater Equal is back e = sym back
 tied_by m n one other Greater Greater is back e = absurd (omega arith)
 
-module _ (keys : List KeyOrder) (batch : Batch) (few : batch.rows ≤ 2 ^ 64) where
+-- places in order, as they stood
+pub arranged_from : (cmp : ℕ → ℕ → Ordering) (places ordered : List ℕ) (n : ℕ) → places ≡ range_with_len 0 n → IsSortedBy (λ a b. is_lt (cmp a b)) ordered
+    → ((x : ℕ) → filter (ties (λ a b. is_lt (cmp a b)) x) ordered ≡ filter (ties (λ a b. is_lt (cmp a b)) x) places) → IsArrangement cmp (range_with_len 0 n) ordered
+arranged_from cmp places ordered n all sorted stable = record { sorted = sorted; stable = λ x. stable x ∙ ap (filter (ties (λ a b. is_lt (cmp a b)) x)) all }
+
+module _ (scale : Scale) (keys : List KeyOrder) (batch : Batch) (few : batch.rows ≤ 2 ^ 32) where
   abbrev lt : ℕ → ℕ → Bool
   lt x y = is_lt (prefixed_cmp keys (has_row batch) (row_at batch) x y)
 
@@ -112,18 +118,26 @@ module _ (keys : List KeyOrder) (batch : Batch) (few : batch.rows ≤ 2 ^ 64) wh
       let n = prefix_of y in
       tied_by m n (cmp (row_of x) (row_of y)) (cmp (row_of y) (row_of x)) (nat_cmp m n) (nat_cmp n m) (ranked m n (nat_cmp m n) refl) (ranked n m (nat_cmp n m) refl) tie
 
-  up : (x i j : ℕ) → i < j → j < batch.rows → ties lt x (prefixed_at keys batch i) ≡ true → ties lt x (prefixed_at keys batch j) ≡ true → prefixed_at keys batch i ≤ prefixed_at keys batch j
+  up : (x i j : ℕ) → i < j → j < batch.rows → ties lt x (prefixed_at scale keys batch i) ≡ true → ties lt x (prefixed_at scale keys batch j) ≡ true → prefixed_at scale keys batch i ≤ prefixed_at scale keys batch j
   up x i j low within here there =
-      let one = key_prefix (map direction_of keys) (sort_key_of keys batch i) in
-      let other = key_prefix (map direction_of keys) (sort_key_of keys batch j) in
+      let one = shortened scale (key_prefix (map direction_of keys) (sort_key_of keys batch i)) in
+      let other = shortened scale (key_prefix (map direction_of keys) (sort_key_of keys batch j)) in
       let same : one ≡ other =
-      sym (prefix_packed one i (omega arith)) ∙ sym (same_prefix x (prefixed_at keys batch i) here) ∙ same_prefix x (prefixed_at keys batch j) there ∙ prefix_packed other j (omega arith) in
+      sym (prefix_packed one i (omega arith)) ∙ sym (same_prefix x (prefixed_at scale keys batch i) here) ∙ same_prefix x (prefixed_at scale keys batch j) there ∙ prefix_packed other j (omega arith) in
       subst (λ prefix. packed one i ≤ packed prefix j) same (omega arith)
 
   -- the rows of a batch may be put in order by their numbers before they are by their keys
-  pub ties_stand : (rows ordered : List ℕ) → rows ≡ map (prefixed_at keys batch) (range_with_len 0 batch.rows) → IsArrangement nat_cmp rows ordered → (x : ℕ) → filter (ties lt x) ordered ≡ filter (ties lt x) rows
+  pub ties_stand : (rows ordered : List ℕ) → rows ≡ map (prefixed_at scale keys batch) (range_with_len 0 batch.rows) → IsArrangement nat_cmp rows ordered → (x : ℕ) → filter (ties lt x) ordered ≡ filter (ties lt x) rows
   ties_stand rows ordered all is x =
       let from = range_with_len 0 batch.rows in
       ap (filter (ties lt x)) (is_arranged nat_cmp nat_cmp_total rows ordered is)
       ∙ kept_in_order (ties lt x) rows
-      (subst (λ some. Rising (filter (ties lt x) some)) (sym all) (rising (ties lt x) (prefixed_at keys batch) batch.rows (up x) 0 batch.rows (omega arith)))
+      (subst (λ some. Rising (filter (ties lt x) some)) (sym all) (rising (ties lt x) (prefixed_at scale keys batch) batch.rows (up x) 0 batch.rows (omega arith)))
+
+  -- so they are in order after both
+  pub arranged_twice : (rows between ordered : List ℕ) → rows ≡ map (prefixed_at scale keys batch) (range_with_len 0 batch.rows) → IsArrangement nat_cmp rows between → IsSortedBy lt ordered
+      → ((x : ℕ) → filter (ties lt x) ordered ≡ filter (ties lt x) between) → IsArrangement (prefixed_cmp keys (has_row batch) (row_at batch)) (map (prefixed_at scale keys batch) (range_with_len 0 batch.rows)) ordered
+  arranged_twice rows between ordered all first sorted stable = record {
+    sorted = sorted;
+    stable = λ x. stable x ∙ ties_stand rows between all first x ∙ ap (filter (ties lt x)) all;
+  }

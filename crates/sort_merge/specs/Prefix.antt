@@ -1,4 +1,5 @@
--- The prefix of a row's key: a number of 64 bits that orders rows as far as it tells them apart.
+-- The prefix of a row's key: a number of 64 bits that orders rows as far as it tells them apart. Of it a number of 32 bits is kept,
+-- which does so too.
 use Rattle.std.specs.Prelude.{ℕ, ◌+◌, ◌-◌, ◌*◌, ◌/◌, ◌%◌, ◌^◌, ℤ, pos, negsuc, List, [], ◌∷◌, Bool, true, false, map, min, if◌then◌else◌}
 use Rattle.std.specs.declared.cmp.Ordering.{Ordering}
 use Rattle.std.specs.Ordering.{nat_cmp, on, then_cmp}
@@ -11,6 +12,7 @@ use Rattle.plan_denote.specs.Sort.{Direction, first_key}
 use Rattle.rel_specs.specs.declared.key_order.KeyOrder.{KeyOrder}
 use Rattle.row_keys.specs.Keys.{sort_key_of, direction_of}
 use Rattle.sort_merge.specs.RowOrder.{place_cmp}
+use Rattle.sort_merge.specs.declared.scale.Scale.{Scale}
 
 -- the greatest prefix
 abbrev pub most : ℕ
@@ -46,19 +48,23 @@ abbrev pub key_prefix : List Direction → List Value → ℕ
 key_prefix [] key = 0
 key_prefix (direction ∷ directions) key = prefix_in direction (first_key key)
 
--- a row's prefix and its place, in one number
+-- by how far a prefix is above the least, in steps of a power of two; prefixes far above are alike
+abbrev pub shortened : Scale → ℕ → ℕ
+shortened scale prefix = min ((prefix - scale.least) / 2 ^ scale.shift) (2 ^ 32 - 1)
+
+-- a row's shortened prefix and its place, in one number
 abbrev pub packed : ℕ → ℕ → ℕ
-packed prefix row = prefix * 2 ^ 64 + row
+packed prefix row = prefix * 2 ^ 32 + row
 
 abbrev pub prefix_of : ℕ → ℕ
-prefix_of one = one / 2 ^ 64
+prefix_of one = one / 2 ^ 32
 
 abbrev pub row_of : ℕ → ℕ
-row_of one = one % 2 ^ 64
+row_of one = one % 2 ^ 32
 
 -- a row of a batch with its prefix
-abbrev pub prefixed_at : List KeyOrder → Batch → ℕ → ℕ
-prefixed_at keys batch row = packed (key_prefix (map direction_of keys) (sort_key_of keys batch row)) row
+abbrev pub prefixed_at : Scale → List KeyOrder → Batch → ℕ → ℕ
+prefixed_at scale keys batch row = packed (shortened scale (key_prefix (map direction_of keys) (sort_key_of keys batch row))) row
 
 -- two rows by their prefixes, and where these are equal by the rows
 abbrev pub prefixed_cmp : List KeyOrder → (ℕ → Bool) → (ℕ → Row) → ℕ → ℕ → Ordering

@@ -3,10 +3,12 @@
 //! order.
 #![tactic(auto)]
 
+mod joined;
 mod order;
 mod prefixes;
 mod run_laws;
 mod runs;
+mod scale;
 mod sort;
 
 pub use run_laws::sorted_runs_are_the_whole;

@@ -1,5 +1,5 @@
 // The places of a batch's rows in order.
-ghost use Rattle.std.specs.Prelude.{◌≡◌, ◌<◌, length, map, All, IfOk, OnOk};
+ghost use Rattle.std.specs.Prelude.{◌≡◌, ◌<◌, ◌≤◌, ◌^◌, length, map, All, IfOk};
 ghost use Rattle.std.specs.List.{range_with_len};
 ghost use Rattle.plan_denote.specs.Sort.{IsArrangement};
 ghost use Rattle.batch_places.specs.BatchRow.{has_row, row_at};
@@ -7,12 +7,16 @@ ghost use Rattle.sort_merge.specs.Prefix as spec;
 ghost use Rattle.sort_merge.specs.RowOrder.{place_cmp};
 
 use crate::prefixes::{prefix_of, prefixed_rows, row_of};
+use crate::scale::{Scale, scale_of};
 use batch::Batch;
 use rel_specs::KeyOrder;
 use row_keys::compare_keys;
 use std::alloc::Global;
 use std::cmp::Ordering;
 use sub_types::NoMemory;
+
+/// The most rows whose places are numbers of 32 bits.
+const MANY_ROWS: u64 = 1 << 32;
 
 /// The places of a batch's rows in order of these columns.
 pub(crate) fn ordered_places(
@@ -24,15 +28,16 @@ pub(crate) fn ordered_places(
     ensures arrangement { IfOk result (λ places. IsArrangement (place_cmp keys.now (has_row batch.now) (row_at batch.now)) (range_with_len 0 batch.now.rows) places.items) }
     ensures count { IfOk result (λ places. length places.items ≡ batch.now.rows) }
 {
-    // A batch has fewer than 2^64 rows.
-    let _rows = batch.rows;
-    let mut rows = prefixed_rows(alloc, keys, batch)?;
-    put_in_order(keys, batch, &mut rows)?;
+    if batch.rows > MANY_ROWS {
+        return places_in_order(alloc, keys, batch);
+    }
+    let scale = scale_of(keys, batch);
+    let rows = rows_in_order(alloc, keys, batch, &scale)?;
     places_of(alloc, &rows)
 }
 
 // The places of rows.
-fn places_of(alloc: Global, rows: &[u128]) -> Result<Vec<u64>, NoMemory>
+fn places_of(alloc: Global, rows: &[u64]) -> Result<Vec<u64>, NoMemory>
     ensures { IfOk result (λ places. places.items ≡ map spec.row_of rows.now) }
 {
     let mut places = Vec::with_capacity(alloc, rows.len())?;
@@ -42,22 +47,50 @@ fn places_of(alloc: Global, rows: &[u128]) -> Result<Vec<u64>, NoMemory>
     Ok(places)
 }
 
-// Puts all rows in order: first by their numbers, which compare fast, so that mostly no row is moved after that.
-fn put_in_order(keys: &[KeyOrder], batch: &Batch, rows: &mut Vec<u128>) -> Result<(), NoMemory>
+// All rows in order: first by their numbers, which compare fast, so that mostly no row is moved after that.
+fn rows_in_order(
+    alloc: Global,
+    keys: &[KeyOrder],
+    batch: &Batch,
+    scale: &Scale,
+) -> Result<Vec<u64>, NoMemory>
     requires columns { All (λ key. key.column < length batch.now.columns.items) keys.now }
-    requires rows { rows.old.items ≡ map (spec.prefixed_at keys.now batch.now) (range_with_len 0 batch.now.rows) }
-    ensures arrangement { OnOk result (IsArrangement (spec.prefixed_cmp keys.now (has_row batch.now) (row_at batch.now)) rows.old.items rows.new.items) }
-    ensures count { length rows.new.items ≡ length rows.old.items }
+    requires few { batch.now.rows ≤ 2 ^ 32 }
+    ensures arrangement { IfOk result (λ rows. IsArrangement (spec.prefixed_cmp keys.now (has_row batch.now) (row_at batch.now)) (map (spec.prefixed_at scale.now keys.now batch.now) (range_with_len 0 batch.now.rows)) rows.items) }
+    ensures count { IfOk result (λ rows. length rows.items ≡ batch.now.rows) }
+{
+    let mut rows = prefixed_rows(alloc, keys, batch, scale)?;
+    rows.sort()?;
+    rows.sort_by(|a, b| compare_rows(keys, batch, *a, *b))?;
+    Ok(rows)
+}
+
+// The places of all rows in order by the rows alone, where they are many.
+fn places_in_order(alloc: Global, keys: &[KeyOrder], batch: &Batch) -> Result<Vec<u64>, NoMemory>
+    requires columns { All (λ key. key.column < length batch.now.columns.items) keys.now }
+    ensures arrangement { IfOk result (λ places. IsArrangement (place_cmp keys.now (has_row batch.now) (row_at batch.now)) (range_with_len 0 batch.now.rows) places.items) }
+    ensures count { IfOk result (λ places. length places.items ≡ batch.now.rows) }
 {
     // A batch has fewer than 2^64 rows.
     let _rows = batch.rows;
-    rows.sort()?;
-    rows.sort_by(|a, b| compare_rows(keys, batch, *a, *b))?;
-    Ok(())
+    let mut places = all_rows(alloc, batch.rows)?;
+    places.sort_by(|a, b| compare_places(keys, batch, *a, *b))?;
+    Ok(places)
+}
+
+// The places of so many rows.
+fn all_rows(alloc: Global, rows: u64) -> Result<Vec<u64>, NoMemory>
+    ensures { IfOk result (λ places. places.items ≡ range_with_len 0 rows) }
+{
+    let mut places = Vec::with_capacity(alloc, rows as usize)?;
+    for row in 0..rows {
+        places.push(row)?;
+    }
+    Ok(places)
 }
 
 // Two rows by their prefixes, and where these are equal by their keys.
-fn compare_rows(keys: &[KeyOrder], batch: &Batch, a: u128, b: u128) -> Ordering
+fn compare_rows(keys: &[KeyOrder], batch: &Batch, a: u64, b: u64) -> Ordering
     requires columns { All (λ key. key.column < length batch.now.columns.items) keys.now }
     ensures { result ≡ spec.prefixed_cmp keys.now (has_row batch.now) (row_at batch.now) a b }
 {

@@ -5,4 +5,4 @@ use Rattle.sort_merge.proofs.prefixes.prefixed_rows.Given as goal
 
 -- the rows so far
 abbrev pub invariant-loop-row : goal.invariant-loop-row
-invariant-loop-row l = l.rows.items ≡ map (prefixed_at l.keys l.batch) (range_with_len 0 l.row)
+invariant-loop-row l = l.rows.items ≡ map (prefixed_at l.scale l.keys l.batch) (range_with_len 0 l.row)
