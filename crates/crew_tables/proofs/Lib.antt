@@ -1,0 +1,9 @@
+pub mod MadeLaws
+pub mod GluedLaws
+pub mod FileLaws
+pub mod PartLaws
+pub mod AddedLaws
+pub mod TakenLaws
+pub mod RiseLaws
+pub mod TableLaws
+pub mod OneLaws

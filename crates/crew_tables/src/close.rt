@@ -1,0 +1,28 @@
+// The readers of files, given back.
+ghost use Rattle.std.specs.Prelude.{◌≡◌, ◌-◌, ◌<◌, ◌≤◌, length, sum_by};
+ghost use Rattle.world.specs.Counts.{Rose};
+
+use std::alloc::Global;
+use sub_types::NoMemory;
+use world::Folder;
+
+/// Gives readers back, also where no memory was found for the reads of one of them.
+pub(crate) fn close_readers<F: Folder>(
+    alloc: Global,
+    folder: &mut F,
+    readers: Vec<F::R>,
+) -> Result<(), NoMemory>
+    ensures never_falls { F.read_faults folder.old ≤ F.read_faults folder.new }
+    ensures faults { 0 < sum_by F.R.faults readers.items → Rose (F.read_faults folder.old) (F.read_faults folder.new) }
+    ensures files { F.files folder.new ≡ F.files folder.old }
+    ensures write_faults { F.write_faults folder.new ≡ F.write_faults folder.old }
+    ensures lent { F.lent folder.new ≡ F.lent folder.old - length readers.items }
+{
+    let mut closed = Ok(());
+    for reader in readers {
+        if let Err(error) = folder.give_back(alloc, reader) {
+            closed = Err(error);
+        }
+    }
+    closed
+}
