@@ -1,0 +1,4 @@
+pub mod AddedLaws
+pub mod TakenLaws
+pub mod RiseLaws
+pub mod PartLaws
