@@ -1,0 +1,4 @@
+pub mod FoldLaws
+pub mod FinalLaws
+pub mod TypeLaws
+pub mod ColumnLaws

@@ -1,0 +1,3 @@
+pub mod States
+pub mod Finals
+pub mod Folding
