@@ -1,16 +1,15 @@
 -- Which status, report and files fit what a run does.
-use Rattle.std.specs.Prelude.{◌≡◌, ◌⊎◌, ℕ, List, Option, Some, Result, Ok, Err, length, map, IsOkAnd}
+use Rattle.std.specs.Prelude.{◌≡◌, ◌⊎◌, ℕ, List, Option, Some, Result, Ok, Err, map, IsOkAnd}
 use Rattle.std.specs.List.{AllZip}
 use Rattle.sub_types.specs.declared.fault.Fault.{Fault}
 use Rattle.sub_types.specs.declared.fault.FaultKind.TheVariants as kinds
 use Rattle.world.specs.Files.{Files, written, IsPartWritten}
-use Rattle.run_core.specs.Receipts.{IsBalanced, lists_of}
 use Rattle.plan_typed.specs.declared.sub.Holed.{Holed}
 use Rattle.plan_denote.specs.Denote.{Tables}
 use Rattle.plan_denote.specs.Subqueries.{denote_plan}
 use Rattle.plan_reads.specs.Reads.{reads_of}
 use Rattle.plan_tables.specs.Refused.{IsRefused}
-use Rattle.run_words.specs.declared.status.PipeReceipt.{PipeReceipt}
+use Rattle.crew_tables.specs.Receipts.{IsReceiptOf}
 use Rattle.run_words.specs.declared.status.Report.{Report}
 use Rattle.run_words.specs.declared.status.Status.{Status}
 use Rattle.run_words.specs.declared.status.Status.TheVariants as status
@@ -19,13 +18,6 @@ use Rattle.sub_types.specs.ResultSteps.{◌>>=◌}
 use Rattle.plan_tables.specs.Tables.{Opened}
 use Rattle.run_accepted.specs.declared.rows.Ran.{Ran}
 use Rattle.run_accepted.specs.Done.{Done, input_of, unrefused, rows_over}
-
--- the receipt of a read relation of so many batches: each was claimed once, and was finished by one worker or is left
-pub record IsReceiptOf (workers : ℕ) (input : ℕ × ℕ) (receipt : PipeReceipt) : Type 0 where
-  pub relation : receipt.relation ≡ input.0
-  pub batches : receipt.batches ≡ input.1
-  pub seats : length receipt.workers.items ≡ workers
-  pub balanced : IsBalanced receipt.batches (map lists_of receipt.workers.items) receipt.left.items
 
 -- what a report says of a run that was done: one receipt for each read relation, in order
 pub record IsReport (done : Done) (report : Report) : Type 0 where

@@ -4,7 +4,6 @@
 #![tactic(auto)]
 
 mod bare;
-mod inputs;
 mod rows;
 mod run;
 mod write;

@@ -11,21 +11,25 @@ ghost use Rattle.plan_tables.specs.Tables as spec;
 ghost use Rattle.plan_tables.specs.Tables.{Opened, tested_tables};
 ghost use Rattle.row_engine.specs.Tables.{tables_seen};
 ghost use Rattle.run_accepted.specs.Done.{IsAccepted, input_of};
-ghost use Rattle.run_accepted.specs.Fits.{FitsRows, IsReceiptOf};
+ghost use Rattle.crew_tables.specs.Receipts.{IsReceiptOf};
+ghost use Rattle.run_accepted.specs.Fits.{FitsRows};
 
-use crate::inputs::receipts_of;
 use batch::Batch;
+use crew_tables::{Crew, CrewTables, read_by_crew};
 use plan_batches::run_plan;
 use plan_leaves::Items;
 use plan_reads::reads_of;
-use plan_tables::{OpenRead, close_reads, open_reads, read_tables};
+use plan_tables::{OpenRead, open_reads};
 use plan_typed::Holed;
 use row_engine::{Table, table_rows};
 use run_words::{PipeReceipt, Status};
 use std::alloc::Global;
+use std::marker::Sync;
+use std::sync::Wait;
+use std::thread::Threads;
 use sub_types::{NoMemory, Value, Word};
 use table_open::TableError;
-use world::{Folder, FolderError};
+use world::{Folder, FolderError, Gate};
 
 /// The rows of a plan, and the receipts of its read relations.
 #[derive(Drop)]
@@ -37,14 +41,16 @@ pub struct Ran {
 /// Runs an accepted plan over the files of a folder, those that the words bind to the names of its read relations' tables, and gives its
 /// rows with a receipt of so many workers for each read relation, or the first refusal or fault. Nothing is written. All readers are
 /// given back.
-pub fn rows_of_plan<F: Folder>(
+pub fn rows_of_plan<H: Threads + Wait + Sync, F: Folder, G: Gate>(
+    rt: &H,
+    gate: &G,
     alloc: Global,
     folder: &mut F,
     bindings: &[Word],
     workers: u32,
     plan: &Holed,
 ) -> Result<Ran, Status>
-    requires workers { 1 ≤ workers }
+    requires workers { (1 ≤ workers) × (workers ≤ 64) }
     requires few_words { length bindings.now ≤ 1024 }
     requires accepted { IsAccepted plan.now }
     ensures rows { (files : Files) → F.files folder.old ≡ Some files
@@ -58,7 +64,10 @@ pub fn rows_of_plan<F: Folder>(
         Err(NoMemory) => return Err(Status::NoMemory),
     };
     match open_reads(alloc, folder, bindings, reads) {
-        Ok(opened) => rows_of_opened(alloc, folder, workers, plan, opened),
+        Ok(opened) => {
+            let crew = Crew { rt, gate, workers };
+            rows_of_opened(&crew, alloc, folder, plan, opened)
+        }
         Err(TableError::Refused { file, rule }) => Err(Status::FileRefused { file, rule }),
         Err(TableError::ReadFault) => Err(Status::ReadFault),
         Err(TableError::NoMemory) => Err(Status::NoMemory),
@@ -66,31 +75,26 @@ pub fn rows_of_plan<F: Folder>(
 }
 
 // The same once the files are open.
-fn rows_of_opened<F: Folder>(
+fn rows_of_opened<H: Threads + Wait + Sync, F: Folder, G: Gate>(
+    crew: &Crew<'_, H, G>,
     alloc: Global,
     folder: &mut F,
-    workers: u32,
     plan: &Holed,
     opened: Vec<OpenRead<F::R>>,
 ) -> Result<Ran, Status>
-    requires workers { 1 ≤ workers }
     requires accepted { IsAccepted plan.now }
     requires reads { map (λ one. one.read) opened.items ≡ spec_reads_of plan.now }
     requires ready { AllReady F.R.bytes opened.items }
-    ensures rows { AllTold F.R.bytes opened.items → FitsRows (Ok (map (open_seen F.R.bytes) opened.items)) plan.now workers result }
+    ensures rows { AllTold F.R.bytes opened.items → FitsRows (Ok (map (open_seen F.R.bytes) opened.items)) plan.now crew.now.workers result }
     ensures kept { F.files folder.new ≡ F.files folder.old }
     ensures read_fault { result ≡ Err Status.ReadFault → Rose (F.read_faults folder.old) (F.read_faults folder.new) }
     ensures lent { F.lent folder.new ≡ F.lent folder.old - count_open opened.items }
 {
-    let receipts = match receipts_of(alloc, &opened, workers) {
-        Ok(receipts) => receipts,
-        Err(NoMemory) => {
-            let _ = close_reads(alloc, folder, opened);
-            return Err(Status::NoMemory);
+    match read_by_crew(crew, alloc, folder, opened) {
+        Ok(all) => {
+            let CrewTables { tables, receipts } = all;
+            rows_of_tables(alloc, plan, &tables, receipts)
         }
-    };
-    match read_tables(alloc, folder, opened) {
-        Ok(tables) => rows_of_tables(alloc, plan, &tables, receipts),
         Err(FolderError::Failed) => Err(Status::ReadFault),
         Err(FolderError::NoMemory) => Err(Status::NoMemory),
     }

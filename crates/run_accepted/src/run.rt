@@ -11,33 +11,39 @@ ghost use Rattle.row_engine.specs.Tables.{tables_seen};
 ghost use Rattle.run_words.specs.ReadingSeen.{reading_seen};
 ghost use Rattle.run_accepted.specs.Done as spec;
 ghost use Rattle.run_accepted.specs.Done.{IsAccepted, input_of};
-ghost use Rattle.run_accepted.specs.Fits.{FitsFiles, IsReceiptOf, IsOutcome};
+ghost use Rattle.crew_tables.specs.Receipts.{IsReceiptOf};
+ghost use Rattle.run_accepted.specs.Fits.{FitsFiles, IsOutcome};
 
 use crate::bare::bare_table;
-use crate::inputs::receipts_of;
 use crate::write::write_batches;
+use crew_tables::{Crew, CrewTables, read_by_crew};
 use plan_batches::run_plan;
 use plan_reads::reads_of;
-use plan_tables::{OpenRead, close_reads, open_reads, read_tables};
+use plan_tables::{OpenRead, open_reads};
 use plan_typed::Holed;
 use row_engine::Table;
 use run_words::{PipeReceipt, Reading, Status};
 use std::alloc::Global;
+use std::marker::Sync;
+use std::sync::Wait;
+use std::thread::Threads;
 use sub_types::NoMemory;
 use table_open::TableError;
-use world::{Folder, FolderError};
+use world::{Folder, FolderError, Gate};
 
 /// Runs an accepted plan over the files of a folder: those that the words bind to the names of its read relations' tables, its
-/// subqueries' among them, are opened and read, and the rows that it denotes over them are written as the out file. Nothing is
-/// written before all rows are known. All readers are given back.
+/// subqueries' among them, are opened, and read by so many workers, and the rows that it denotes over them are written as the out file.
+/// Nothing is written before all rows are known. All readers are given back.
 #[tactic(auto, unfolding(crate::specs::Done::done_in))]
-pub fn run_accepted<F: Folder>(
+pub fn run_accepted<H: Threads + Wait + Sync, F: Folder, G: Gate>(
+    rt: &H,
+    gate: &G,
     alloc: Global,
     folder: &mut F,
     reading: Reading<'_>,
     plan: &Holed,
 ) -> Status
-    requires workers { 1 ≤ reading.workers }
+    requires workers { (1 ≤ reading.workers) × (reading.workers ≤ 64) }
     requires few_words { length reading.bindings.now ≤ 1024 }
     requires accepted { IsAccepted plan.now }
     ensures files { (files : Files) → F.files folder.old ≡ Some files
@@ -53,7 +59,14 @@ pub fn run_accepted<F: Folder>(
         Err(NoMemory) => return Status::NoMemory,
     };
     match open_reads(alloc, folder, reading.bindings, reads) {
-        Ok(opened) => run_opened(alloc, folder, reading, plan, opened),
+        Ok(opened) => {
+            let crew = Crew {
+                rt,
+                gate,
+                workers: reading.workers,
+            };
+            run_opened(&crew, alloc, folder, reading, plan, opened)
+        }
         Err(TableError::Refused { file, rule }) => Status::FileRefused { file, rule },
         Err(TableError::ReadFault) => Status::ReadFault,
         Err(TableError::NoMemory) => Status::NoMemory,
@@ -61,14 +74,15 @@ pub fn run_accepted<F: Folder>(
 }
 
 /// The same once the files are open.
-fn run_opened<F: Folder>(
+fn run_opened<H: Threads + Wait + Sync, F: Folder, G: Gate>(
+    crew: &Crew<'_, H, G>,
     alloc: Global,
     folder: &mut F,
     reading: Reading<'_>,
     plan: &Holed,
     opened: Vec<OpenRead<F::R>>,
 ) -> Status
-    requires workers { 1 ≤ reading.workers }
+    requires workers { crew.now.workers ≡ reading.workers }
     requires accepted { IsAccepted plan.now }
     requires reads { map (λ one. one.read) opened.items ≡ spec_reads_of plan.now }
     requires ready { AllReady F.R.bytes opened.items }
@@ -80,15 +94,11 @@ fn run_opened<F: Folder>(
     ensures write_fault { result ≡ Status.WriteFault → Rose (F.write_faults folder.old) (F.write_faults folder.new) }
     ensures lent { F.lent folder.new ≡ F.lent folder.old - count_open opened.items }
 {
-    let receipts = match receipts_of(alloc, &opened, reading.workers) {
-        Ok(receipts) => receipts,
-        Err(NoMemory) => {
-            let _ = close_reads(alloc, folder, opened);
-            return Status::NoMemory;
+    match read_by_crew(crew, alloc, folder, opened) {
+        Ok(all) => {
+            let CrewTables { tables, receipts } = all;
+            run_tables(alloc, folder, reading, plan, &tables, receipts)
         }
-    };
-    match read_tables(alloc, folder, opened) {
-        Ok(tables) => run_tables(alloc, folder, reading, plan, &tables, receipts),
         Err(FolderError::Failed) => Status::ReadFault,
         Err(FolderError::NoMemory) => Status::NoMemory,
     }

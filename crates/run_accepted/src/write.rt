@@ -6,7 +6,8 @@ ghost use Rattle.batch.specs.BatchRows.{rows_of, types_of};
 ghost use Rattle.plan_typed.specs.Types.{columns_of};
 ghost use Rattle.run_words.specs.ReadingSeen.{reading_seen};
 ghost use Rattle.run_accepted.specs.Done as spec;
-ghost use Rattle.run_accepted.specs.Fits.{FitsFiles, IsReceiptOf, IsOutcome};
+ghost use Rattle.crew_tables.specs.Receipts.{IsReceiptOf};
+ghost use Rattle.run_accepted.specs.Fits.{FitsFiles, IsOutcome};
 
 use arrow_write::{WriteError, write_file};
 use batch::Batch;

@@ -26,11 +26,11 @@ use world::{Gate, Notes, SureFolder};
 /// Runs the demo's plan over tables of its own, in memory: `demo NUMBER WORKERS`, with so many orders. It says the summary of its
 /// rows to the notes, a line for each region.
 pub fn demo_main<N: Notes, G: Gate, H: Threads + Wait + Sync>(
-    _rt: &H,
+    rt: &H,
     alloc: Global,
     words: &[Word],
     notes: &mut N,
-    _gate: &G,
+    gate: &G,
 ) -> Status
     // Words without a reading are faulty; else the demo is done, with a report of its run, unless there is no memory.
     ensures answer { IsDemoAnswer (demo_of words.now) result }
@@ -42,7 +42,7 @@ pub fn demo_main<N: Notes, G: Gate, H: Threads + Wait + Sync>(
         say_line(alloc, notes, &Status::Usage);
         return Status::Usage;
     };
-    match run_demo(alloc, reading) {
+    match run_demo(rt, gate, alloc, reading) {
         Ok(ran) => {
             say_summary(alloc, notes, &ran.rows);
             Status::Ok(report_of(ran))
@@ -66,7 +66,12 @@ fn report_of(ran: Ran) -> Report
 }
 
 // The rows of the demo and the receipts of its run. A refusal can only be that there is no memory.
-fn run_demo(alloc: Global, reading: DemoReading) -> Result<Ran, Status>
+fn run_demo<H: Threads + Wait + Sync, G: Gate>(
+    rt: &H,
+    gate: &G,
+    alloc: Global,
+    reading: DemoReading,
+) -> Result<Ran, Status>
     requires few { reading.number ≤ MAX_NUMBER }
     requires workers { 1 ≤ reading.workers }
     requires few_workers { reading.workers ≤ 64 }
@@ -81,7 +86,7 @@ fn run_demo(alloc: Global, reading: DemoReading) -> Result<Ran, Status>
         Err(NoMemory) => return Err(Status::NoMemory),
     };
     match plan_of_demo(alloc, &mut folder) {
-        Ok(plan) => rows_of_demo(alloc, &mut folder, &bindings, reading, &plan),
+        Ok(plan) => rows_of_demo(rt, gate, alloc, &mut folder, &bindings, reading, &plan),
         Err(refusal) => Err(refusal),
     }
 }
@@ -97,7 +102,9 @@ fn plan_of_demo(alloc: Global, folder: &mut SureFolder) -> Result<Holed, Status>
 }
 
 // The rows of the demo's plan over its folder.
-fn rows_of_demo(
+fn rows_of_demo<H: Threads + Wait + Sync, G: Gate>(
+    rt: &H,
+    gate: &G,
     alloc: Global,
     folder: &mut SureFolder,
     bindings: &[Word],
@@ -114,7 +121,7 @@ fn rows_of_demo(
     ensures ran { IfOk result (IsDemoRan reading.number reading.workers) }
     ensures memory { IfErr result (λ refusal. refusal ≡ Status.NoMemory) }
 {
-    rows_of_plan(alloc, folder, bindings, reading.workers, plan)
+    rows_of_plan(rt, gate, alloc, folder, bindings, reading.workers, plan)
 }
 
 // The words that bind the names of the tables to their files.

@@ -20,12 +20,12 @@ use world::{Folder, Gate, Notes};
 
 /// Runs a plan over the files of a folder: `run PLAN OUT WORKERS NAME=FILE..`. It says the line of its answer to the notes.
 pub fn run_main<F: Folder, N: Notes, G: Gate, H: Threads + Wait + Sync>(
-    _rt: &H,
+    rt: &H,
     alloc: Global,
     words: &[Word],
     folder: &mut F,
     notes: &mut N,
-    _gate: &G,
+    gate: &G,
 ) -> Status
     // What is denoted is answered and written, or nothing is.
     ensures files { (files : Files) → F.files folder.old ≡ Some files
@@ -47,14 +47,20 @@ pub fn run_main<F: Folder, N: Notes, G: Gate, H: Threads + Wait + Sync>(
 
     ensures notes { IsSaid (N.text notes.old) (N.text notes.new) (N.failures notes.old) (N.failures notes.new) (line_of result) }
 {
-    let status = run(alloc, words, folder);
+    let status = run(rt, gate, alloc, words, folder);
     say_line(alloc, notes, &status);
     status
 }
 
 /// The answer, before anything is said.
 #[tactic(auto, unfolding(crate::specs::Answer::answer), using(crate::proofs::AnswerLaws::not_run, crate::proofs::AnswerLaws::outcome_named))]
-fn run<F: Folder>(alloc: Global, words: &[Word], folder: &mut F) -> Status
+fn run<H: Threads + Wait + Sync, F: Folder, G: Gate>(
+    rt: &H,
+    gate: &G,
+    alloc: Global,
+    words: &[Word],
+    folder: &mut F,
+) -> Status
     ensures files { (files : Files) → F.files folder.old ≡ Some files
         → FitsFiles (answer words.now files) (F.files folder.old) (F.files folder.new) result }
     ensures usage { (result ≡ Status.Usage) ↔ (reading_of words.now ≡ None) }
@@ -67,7 +73,7 @@ fn run<F: Folder>(alloc: Global, words: &[Word], folder: &mut F) -> Status
         return Status::Usage;
     };
     match accepted_plan(alloc, folder, reading.plan) {
-        Ok(plan) => run_accepted(alloc, folder, reading, &plan),
+        Ok(plan) => run_accepted(rt, gate, alloc, folder, reading, &plan),
         Err(refusal) => refusal,
     }
 }

@@ -1,7 +1,6 @@
 // What a run reports: its rows, and the receipts of its workers.
 use super::answered::{put, put_repeated, run_words};
 use super::plans::{MANY_ROWS_HEAD, MANY_ROWS_TAIL, NO_ROWS, ROW, X_OF_T};
-use run_core::Receipt;
 use run_top::{PipeReceipt, Status};
 use std::alloc::Global;
 use std::marker::Sync;
@@ -75,43 +74,83 @@ fn rows_batches_and_workers(rt: HostRuntime) {
     }
 }
 
-// The first worker claimed and finished two batches, in order, and nothing else was done or left.
-fn is_of_the_first_worker(receipt: &PipeReceipt) -> bool {
-    let [first, others @ ..] = receipt.workers.as_slice() else {
-        return false;
-    };
-    let numbers = [0, 1].as_slice();
-    first.claimed.as_slice() == numbers
-        && first.finished.as_slice() == numbers
-        && first.offered.is_empty()
-        && first.taken.is_empty()
-        && others.iter().all(did_nothing)
-        && receipt.left.is_empty()
+// Whether the one worker claimed, handed on, took and finished these, in order, and none is left.
+fn is_of_one(receipt: &PipeReceipt, all: &[u64]) -> bool {
+    match receipt.workers.as_slice() {
+        [worker] => worker.claimed.as_slice() == all
+            && worker.offered.as_slice() == all
+            && worker.taken.as_slice() == all
+            && worker.finished.as_slice() == all
+            && receipt.left.is_empty(),
+        _ => false,
+    }
 }
 
-fn did_nothing(worker: &Receipt) -> bool {
-    worker.claimed.is_empty()
-        && worker.offered.is_empty()
-        && worker.taken.is_empty()
-        && worker.finished.is_empty()
+// How often a number stands in the lists of claims, and how often it was finished or is left.
+fn counts_in(receipt: &PipeReceipt, number: u64) -> (usize, usize) {
+    let mut claimed = 0;
+    let mut done = times(&receipt.left, number);
+    for worker in receipt.workers.as_slice() {
+        claimed += times(&worker.claimed, number);
+        done += times(&worker.finished, number);
+    }
+    (claimed, done)
 }
 
-// Whether the run of the words has one receipt, of two batches that the first worker did.
-fn is_done_by_the_first<H: Threads + Wait + Sync>(
+fn times(numbers: &[u64], number: u64) -> usize {
+    numbers.iter().filter(|&&other| other == number).count()
+}
+
+// Whether each number below this one was claimed once, and finished once or left, and no other.
+fn is_each_once(receipt: &PipeReceipt, batches: u64) -> bool {
+    (0..batches).all(|number| counts_in(receipt, number) == (1, 1))
+        && counts_in(receipt, batches) == (0, 0)
+}
+
+// The answer of the words, if it has one receipt of which this is so.
+fn has_receipt<H: Threads + Wait + Sync>(
     rt: &H,
     alloc: Global,
     folder: &mut MemFolder,
     words: &[&str],
+    is_so: fn(&PipeReceipt) -> bool,
 ) -> bool {
     match run_words(rt, alloc, folder, words) {
-        Ok(answered) => receipt_of(&answered.status).is_some_and(is_of_the_first_worker),
+        Ok(answered) => receipt_of(&answered.status).is_some_and(is_so),
         Err(_) => false,
     }
 }
 
+fn is_of_one_batch(receipt: &PipeReceipt) -> bool {
+    is_of_one(receipt, &[0])
+}
+
+fn is_of_five_batches(receipt: &PipeReceipt) -> bool {
+    is_of_one(receipt, &[0, 1, 2, 3, 4])
+}
+
+fn is_of_two_once(receipt: &PipeReceipt) -> bool {
+    is_each_once(receipt, 2)
+}
+
+fn is_of_five_once(receipt: &PipeReceipt) -> bool {
+    is_each_once(receipt, 5)
+}
+
 #[test]
-fn receipts_of_two_batches(rt: HostRuntime) {
+fn one_worker_passes_each_batch_through_the_queue(rt: HostRuntime) {
     let mut folder = folder_of(rt.alloc());
-    let words = ["run", "x", "o", "3", "t=g", "t=g"];
-    assert!(rt; is_done_by_the_first(&rt, rt.alloc(), &mut folder, &words));
+    let one = ["run", "x", "o", "1", "t=g"];
+    assert!(rt; has_receipt(&rt, rt.alloc(), &mut folder, &one, is_of_one_batch));
+    let five = ["run", "x", "o", "1", "t=g", "t=g", "t=g", "t=g", "t=g"];
+    assert!(rt; has_receipt(&rt, rt.alloc(), &mut folder, &five, is_of_five_batches));
+}
+
+#[test]
+fn many_workers_claim_each_batch_once(rt: HostRuntime) {
+    let mut folder = folder_of(rt.alloc());
+    let two = ["run", "x", "o", "3", "t=g", "t=g"];
+    assert!(rt; has_receipt(&rt, rt.alloc(), &mut folder, &two, is_of_two_once));
+    let five = ["run", "x", "o", "64", "t=g", "t=g", "t=g", "t=g", "t=g"];
+    assert!(rt; has_receipt(&rt, rt.alloc(), &mut folder, &five, is_of_five_once));
 }
