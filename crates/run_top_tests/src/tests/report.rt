@@ -88,11 +88,11 @@ fn is_of_one(receipt: &PipeReceipt, all: &[u64]) -> bool {
 
 // How often a number stands in the lists of claims, and how often it was finished or is left.
 fn counts_in(receipt: &PipeReceipt, number: u64) -> (usize, usize) {
-    let mut claimed = 0;
+    let mut claimed: usize = 0;
     let mut done = times(&receipt.left, number);
     for worker in receipt.workers.as_slice() {
-        claimed += times(&worker.claimed, number);
-        done += times(&worker.finished, number);
+        claimed = claimed.saturating_add(times(&worker.claimed, number));
+        done = done.saturating_add(times(&worker.finished, number));
     }
     (claimed, done)
 }
@@ -103,54 +103,62 @@ fn times(numbers: &[u64], number: u64) -> usize {
 
 // Whether each number below this one was claimed once, and finished once or left, and no other.
 fn is_each_once(receipt: &PipeReceipt, batches: u64) -> bool {
-    (0..batches).all(|number| counts_in(receipt, number) == (1, 1))
-        && counts_in(receipt, batches) == (0, 0)
+    for number in 0..batches {
+        if counts_in(receipt, number) != (1, 1) {
+            return false;
+        }
+    }
+    counts_in(receipt, batches) == (0, 0)
 }
 
-// The answer of the words, if it has one receipt of which this is so.
-fn has_receipt<H: Threads + Wait + Sync>(
+// Whether the run of the words has one receipt, of one worker that did these batches.
+fn is_done_alone<H: Threads + Wait + Sync>(
     rt: &H,
     alloc: Global,
     folder: &mut MemFolder,
     words: &[&str],
-    is_so: fn(&PipeReceipt) -> bool,
+    all: &[u64],
 ) -> bool {
     match run_words(rt, alloc, folder, words) {
-        Ok(answered) => receipt_of(&answered.status).is_some_and(is_so),
+        Ok(answered) => match receipt_of(&answered.status) {
+            Some(receipt) => is_of_one(receipt, all),
+            None => false,
+        },
         Err(_) => false,
     }
 }
 
-fn is_of_one_batch(receipt: &PipeReceipt) -> bool {
-    is_of_one(receipt, &[0])
-}
-
-fn is_of_five_batches(receipt: &PipeReceipt) -> bool {
-    is_of_one(receipt, &[0, 1, 2, 3, 4])
-}
-
-fn is_of_two_once(receipt: &PipeReceipt) -> bool {
-    is_each_once(receipt, 2)
-}
-
-fn is_of_five_once(receipt: &PipeReceipt) -> bool {
-    is_each_once(receipt, 5)
+// Whether the run of the words has one receipt, of so many batches that were done once each.
+fn is_done_once<H: Threads + Wait + Sync>(
+    rt: &H,
+    alloc: Global,
+    folder: &mut MemFolder,
+    words: &[&str],
+    batches: u64,
+) -> bool {
+    match run_words(rt, alloc, folder, words) {
+        Ok(answered) => match receipt_of(&answered.status) {
+            Some(receipt) => is_each_once(receipt, batches),
+            None => false,
+        },
+        Err(_) => false,
+    }
 }
 
 #[test]
 fn one_worker_passes_each_batch_through_the_queue(rt: HostRuntime) {
     let mut folder = folder_of(rt.alloc());
     let one = ["run", "x", "o", "1", "t=g"];
-    assert!(rt; has_receipt(&rt, rt.alloc(), &mut folder, &one, is_of_one_batch));
+    assert!(rt; is_done_alone(&rt, rt.alloc(), &mut folder, &one, &[0]));
     let five = ["run", "x", "o", "1", "t=g", "t=g", "t=g", "t=g", "t=g"];
-    assert!(rt; has_receipt(&rt, rt.alloc(), &mut folder, &five, is_of_five_batches));
+    assert!(rt; is_done_alone(&rt, rt.alloc(), &mut folder, &five, &[0, 1, 2, 3, 4]));
 }
 
 #[test]
 fn many_workers_claim_each_batch_once(rt: HostRuntime) {
     let mut folder = folder_of(rt.alloc());
     let two = ["run", "x", "o", "3", "t=g", "t=g"];
-    assert!(rt; has_receipt(&rt, rt.alloc(), &mut folder, &two, is_of_two_once));
+    assert!(rt; is_done_once(&rt, rt.alloc(), &mut folder, &two, 2));
     let five = ["run", "x", "o", "64", "t=g", "t=g", "t=g", "t=g", "t=g"];
-    assert!(rt; has_receipt(&rt, rt.alloc(), &mut folder, &five, is_of_five_once));
+    assert!(rt; is_done_once(&rt, rt.alloc(), &mut folder, &five, 5));
 }
