@@ -1,2 +1,1 @@
 pub mod UntilLaws
-pub mod TruthLaws

@@ -13,12 +13,11 @@ ghost use Rattle.kernels.specs.declared.selection.Stop.{Stop};
 ghost use Rattle.batch_nodes.specs.declared.found.Found.TheVariants.{Made};
 ghost use Rattle.batch_nodes.specs.Evaluated.{eval_at};
 ghost use Rattle.batch_nodes.specs.Found.{IsUntil, found_values};
-ghost use Rattle.sub_types.specs.Nullable.{bool_value};
 ghost use Rattle.value_sets.specs.Sets.{answer_by, has};
 
 mod columns;
 
-use batch::{Column, ColumnBuilder, ColumnData};
+use batch::{Column, ColumnBuilder};
 use batch_nodes::Found;
 use col_fixed::BoolCol;
 use columns::column_answers;
@@ -57,19 +56,8 @@ fn answers(alloc: Global, ty: Ty, set: &ValueSet, values: &Found<'_>) -> Result<
 {
     let truths = column_answers(alloc, set, values)?;
     match truths {
-        Some(truths) => Ok(truth_column(ty, truths)),
+        Some(truths) => Ok(Column::of_truths(ty, truths)),
         None => value_answers(alloc, ty, set, values),
-    }
-}
-
-fn truth_column(ty: Ty, truths: BoolCol) -> Column
-    requires { ty.kind ≡ kinds.Bool }
-    ensures ty { result.ty ≡ ty }
-    ensures values { values_of result.values ≡ map bool_value truths }
-{
-    Column {
-        ty,
-        values: ColumnData::Bool(truths),
     }
 }
 

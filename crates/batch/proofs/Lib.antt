@@ -1,4 +1,5 @@
 pub mod JoinLaws
 pub mod Made
 pub mod RowLaws
+pub mod TruthLaws
 pub mod ValueLaws

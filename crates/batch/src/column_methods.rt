@@ -1,14 +1,17 @@
 // What a column can be asked for.
-ghost use Rattle.std.specs.Prelude.{◌≡◌, ◌<◌, ◌≤◌, length, replicate, slice_index_or, All, IfOk};
+ghost use Rattle.std.specs.Prelude.{◌≡◌, ◌<◌, ◌≤◌, length, map, replicate, slice_index_or, All, IfOk};
 ghost use Rattle.std.specs.List.{slice_range};
 ghost use Rattle.batch.specs.ColumnValues.{values_of};
 ghost use Rattle.batch.specs.Lent.{lent};
 ghost use Rattle.sub_types.specs.Kind.{IsKind};
+ghost use Rattle.sub_types.specs.Nullable.{bool_value};
+ghost use Rattle.sub_types.specs.declared.kind.Kind.TheVariants as kinds;
 ghost use Rattle.sub_types.specs.Value.{InKind};
 ghost use Rattle.sub_types.specs.Rows.{picked};
 ghost use Rattle.sub_types.specs.declared.value.Value.TheVariants.{Null};
 
 use crate::{Column, ColumnBuilder, ColumnData, ColumnView, Storage};
+use col_fixed::BoolCol;
 use std::alloc::Global;
 use sub_types::{NoMemory, Ty, Value};
 
@@ -24,6 +27,18 @@ impl Column {
             ty,
             values: ColumnData::constant(alloc, Storage::of_kind(ty.kind), value, n)?,
         })
+    }
+
+    /// Truth values as a column of this type, which is one of truth values. It takes no memory.
+    pub fn of_truths(ty: Ty, truths: BoolCol) -> Column
+        requires { ty.kind ≡ kinds.Bool }
+        ensures values { values_of result.values ≡ map bool_value truths }
+        ensures ty { result.ty ≡ ty }
+    {
+        Column {
+            ty,
+            values: ColumnData::Bool(truths),
+        }
     }
 
     /// The whole column, lent.

@@ -9,7 +9,8 @@ use crate::{Batch, Column, ColumnBuilder};
 use std::alloc::Global;
 use sub_types::{NoMemory, Ty};
 
-/// The rows of the parts, one part behind the other, as a batch of these types. Its number is 0.
+/// The rows of the parts, one part behind the other, as a batch of these types, whose columns are made with room for all rows.
+/// Its number is 0.
 pub fn join_batches(alloc: Global, types: &[Ty], parts: &[Batch]) -> Result<Batch, NoMemory>
     requires kinds { All (λ ty. IsKind ty.kind) types.now }
     requires alike { All (λ part. types_of part ≡ types.now) parts.now }
@@ -19,13 +20,14 @@ pub fn join_batches(alloc: Global, types: &[Ty], parts: &[Batch]) -> Result<Batc
     ensures number { IfOk result (λ batch. batch.number ≡ 0) }
     ensures count { IfOk result (λ batch. batch.rows ≡ sum_by (λ part. part.rows) parts.now) }
 {
+    let rows = total_rows(parts);
     let mut columns = Vec::new(alloc);
     for index in 0..types.len() {
-        columns.push(join_column(alloc, types, parts, index)?)?;
+        columns.push(join_column(alloc, types, parts, index, rows as usize)?)?;
     }
     Ok(Batch {
         number: 0,
-        rows: total_rows(parts),
+        rows,
         columns,
     })
 }
@@ -41,12 +43,13 @@ fn total_rows(parts: &[Batch]) -> u64
     rows
 }
 
-// The column at a place, of all parts.
+// The column at a place, of all parts, with room for so many rows.
 fn join_column(
     alloc: Global,
     types: &[Ty],
     parts: &[Batch],
     index: usize,
+    rows: usize,
 ) -> Result<Column, NoMemory>
     requires kinds { All (λ ty. IsKind ty.kind) types.now }
     requires alike { All (λ part. types_of part ≡ types.now) parts.now }
@@ -54,7 +57,7 @@ fn join_column(
     ensures values { IfOk result (λ column. column_values column ≡ flat_map (column_of index) parts.now) }
     ensures ty { IfOk result (λ column. slice_get types.now index ≡ Some column.ty) }
 {
-    let mut builder = ColumnBuilder::new(alloc, types[index]);
+    let mut builder = ColumnBuilder::with_capacity(alloc, types[index], rows)?;
     for part in parts {
         let column = &part.columns[index];
         builder.append(column, 0, column.values.len())?;

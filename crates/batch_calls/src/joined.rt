@@ -77,7 +77,7 @@ fn join_truths(
         return Ok(None);
     }
     let both = three_valued(alloc, end, a, b)?;
-    Ok(Some(truth_column(ty, both)))
+    Ok(Some(Column::of_truths(ty, both)))
 }
 
 /// All values, where they are a column of truth values.
@@ -114,16 +114,5 @@ fn three_valued(alloc: Global, end: bool, a: &BoolCol, b: &BoolCol) -> Result<Bo
         or3(alloc, a, b)
     } else {
         and3(alloc, a, b)
-    }
-}
-
-fn truth_column(ty: Ty, column: BoolCol) -> Column
-    requires { ty.kind ≡ kinds.Bool }
-    ensures values { values_of result.values ≡ map bool_value column }
-    ensures ty { result.ty ≡ ty }
-{
-    Column {
-        ty,
-        values: ColumnData::Bool(column),
     }
 }

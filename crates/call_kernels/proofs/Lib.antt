@@ -1,2 +1,4 @@
+pub mod DecimalLaws
 pub mod MadeLaws
 pub mod PlaceLaws
+pub mod NullLaws

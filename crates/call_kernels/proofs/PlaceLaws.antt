@@ -18,7 +18,7 @@ use Rattle.batch.specs.ColumnValues.{values_of}
 use Rattle.batch.specs.declared.column.Column as batch_column
 use Rattle.kernels.specs.declared.op.ArithOp.{ArithOp}
 use Rattle.kernels.specs.declared.selection.Stop.{Stop}
-use Rattle.sub_types.specs.Nullable.{bool_value, int_value, dec_value, bytes_value}
+use Rattle.sub_types.specs.Nullable.{int_value, dec_value, bytes_value}
 use Rattle.sub_types.specs.declared.kind.Kind.{Kind}
 use Rattle.sub_types.specs.declared.kind.Kind.TheVariants as kinds
 use Rattle.sub_types.specs.declared.value.Value.{Value}
@@ -66,55 +66,55 @@ zipped_as r see f x y u v x_is y_is all =
     subst (λ (u : List Value). IfOk r (λ found. IfSome found (λ column. see column ≡ zip2 f u v))) x_is
     (subst (λ (v : List Value). IfOk r (λ found. IfSome found (λ column. see column ≡ zip2 f x v))) y_is all)
 
--- ---- numbers at places
+-- ---- numbers at places, as values
 
-module _ {T : Type 0} (number : T → ℤ) (f : Value → Value → Computed) where
-  at_number : (numbers : List (Option T)) (i : ℕ) → get_or (ints number numbers) i values.Null ≡ int_of number (get_or numbers i None)
-  at_number numbers i = get_or-mapped (int_of number) numbers i None
+module _ {T : Type 0} (of : Option T → Value) (none_is : of None ≡ values.Null) (f : Value → Value → Computed) where
+  at_number : (numbers : List (Option T)) (i : ℕ) → get_or (map of numbers) i values.Null ≡ of (get_or numbers i None)
+  at_number numbers i = ap (get_or (map of numbers) i) (sym none_is) ∙ get_or-mapped of numbers i None
 
-  at_constant : (k : Option T) (n i : ℕ) → i < n → get_or (ints number (replicate n k)) i values.Null ≡ int_of number k
-  at_constant k n i below = at_number (replicate n k) i ∙ ap (int_of number) (get_or-replicate n i k None below)
+  at_constant : (k : Option T) (n i : ℕ) → i < n → get_or (map of (replicate n k)) i values.Null ≡ of k
+  at_constant k n i below = at_number (replicate n k) i ∙ ap of (get_or-replicate n i k None below)
 
   pub until-columns : (a b : List (Option T)) (n : ℕ) (out : Until Value) → length a ≡ n
-      → until (λ i. f (int_of number (get_or a i None)) (int_of number (get_or b i None))) (range_with_len 0 (length a)) ≡ out
-      → until (at_places f (ints number a) (ints number b)) (range_with_len 0 n) ≡ out
+      → until (λ i. f (of (get_or a i None)) (of (get_or b i None))) (range_with_len 0 (length a)) ≡ out
+      → until (at_places f (map of a) (map of b)) (range_with_len 0 n) ≡ out
   until-columns a b n out long is =
-      until-same (at_places f (ints number a) (ints number b)) (λ i. f (int_of number (get_or a i None)) (int_of number (get_or b i None))) (λ i. ap₂ f (at_number a i) (at_number b i)) (range_with_len 0 n)
-      ∙ ap (λ m. until (λ i. f (int_of number (get_or a i None)) (int_of number (get_or b i None))) (range_with_len 0 m)) (sym long)
+      until-same (at_places f (map of a) (map of b)) (λ i. f (of (get_or a i None)) (of (get_or b i None))) (λ i. ap₂ f (at_number a i) (at_number b i)) (range_with_len 0 n)
+      ∙ ap (λ m. until (λ i. f (of (get_or a i None)) (of (get_or b i None))) (range_with_len 0 m)) (sym long)
       ∙ is
 
   pub until-right : (a : List (Option T)) (k : Option T) (n : ℕ) (out : Until Value) → length a ≡ n
-      → until (λ i. f (int_of number (get_or a i None)) (int_of number k)) (range_with_len 0 (length a)) ≡ out
-      → until (at_places f (ints number a) (ints number (replicate n k))) (range_with_len 0 n) ≡ out
+      → until (λ i. f (of (get_or a i None)) (of k)) (range_with_len 0 (length a)) ≡ out
+      → until (at_places f (map of a) (map of (replicate n k))) (range_with_len 0 n) ≡ out
   until-right a k n out long is =
-      until-below (at_places f (ints number a) (ints number (replicate n k))) (λ i. f (int_of number (get_or a i None)) (int_of number k)) n (λ i below. ap₂ f (at_number a i) (at_constant k n i below))
-      ∙ ap (λ m. until (λ i. f (int_of number (get_or a i None)) (int_of number k)) (range_with_len 0 m)) (sym long)
+      until-below (at_places f (map of a) (map of (replicate n k))) (λ i. f (of (get_or a i None)) (of k)) n (λ i below. ap₂ f (at_number a i) (at_constant k n i below))
+      ∙ ap (λ m. until (λ i. f (of (get_or a i None)) (of k)) (range_with_len 0 m)) (sym long)
       ∙ is
 
   pub until-left : (k : Option T) (b : List (Option T)) (n : ℕ) (out : Until Value) → length b ≡ n
-      → until (λ i. f (int_of number k) (int_of number (get_or b i None))) (range_with_len 0 (length b)) ≡ out
-      → until (at_places f (ints number (replicate n k)) (ints number b)) (range_with_len 0 n) ≡ out
+      → until (λ i. f (of k) (of (get_or b i None))) (range_with_len 0 (length b)) ≡ out
+      → until (at_places f (map of (replicate n k)) (map of b)) (range_with_len 0 n) ≡ out
   until-left k b n out long is =
-      until-below (at_places f (ints number (replicate n k)) (ints number b)) (λ i. f (int_of number k) (int_of number (get_or b i None))) n (λ i below. ap₂ f (at_constant k n i below) (at_number b i))
-      ∙ ap (λ m. until (λ i. f (int_of number k) (int_of number (get_or b i None))) (range_with_len 0 m)) (sym long)
+      until-below (at_places f (map of (replicate n k)) (map of b)) (λ i. f (of k) (of (get_or b i None))) n (λ i below. ap₂ f (at_constant k n i below) (at_number b i))
+      ∙ ap (λ m. until (λ i. f (of k) (of (get_or b i None))) (range_with_len 0 m)) (sym long)
       ∙ is
 
   -- the same of columns as they are seen
   pub columns_seen : (a b u v : List (Option T)) (n : ℕ) (out : Until Value) → u ≡ a → v ≡ b → length a ≡ n
-      → until (λ i. f (int_of number (get_or u i None)) (int_of number (get_or v i None))) (range_with_len 0 (length u)) ≡ out
-      → until (at_places f (ints number a) (ints number b)) (range_with_len 0 n) ≡ out
+      → until (λ i. f (of (get_or u i None)) (of (get_or v i None))) (range_with_len 0 (length u)) ≡ out
+      → until (at_places f (map of a) (map of b)) (range_with_len 0 n) ≡ out
   columns_seen a b u v n out u_is v_is long is =
-      ap₂ (λ (a b : List (Option T)). until (at_places f (ints number a) (ints number b)) (range_with_len 0 n)) (sym u_is) (sym v_is) ∙ until-columns u v n out (ap length u_is ∙ long) is
+      ap₂ (λ (a b : List (Option T)). until (at_places f (map of a) (map of b)) (range_with_len 0 n)) (sym u_is) (sym v_is) ∙ until-columns u v n out (ap length u_is ∙ long) is
 
   pub right_seen : (a u : List (Option T)) (k : Option T) (n : ℕ) (out : Until Value) → u ≡ a → length a ≡ n
-      → until (λ i. f (int_of number (get_or u i None)) (int_of number k)) (range_with_len 0 (length u)) ≡ out
-      → until (at_places f (ints number a) (ints number (replicate n k))) (range_with_len 0 n) ≡ out
-  right_seen a u k n out u_is long is = ap (λ (a : List (Option T)). until (at_places f (ints number a) (ints number (replicate n k))) (range_with_len 0 n)) (sym u_is) ∙ until-right u k n out (ap length u_is ∙ long) is
+      → until (λ i. f (of (get_or u i None)) (of k)) (range_with_len 0 (length u)) ≡ out
+      → until (at_places f (map of a) (map of (replicate n k))) (range_with_len 0 n) ≡ out
+  right_seen a u k n out u_is long is = ap (λ (a : List (Option T)). until (at_places f (map of a) (map of (replicate n k))) (range_with_len 0 n)) (sym u_is) ∙ until-right u k n out (ap length u_is ∙ long) is
 
   pub left_seen : (k : Option T) (b v : List (Option T)) (n : ℕ) (out : Until Value) → v ≡ b → length b ≡ n
-      → until (λ i. f (int_of number k) (int_of number (get_or v i None))) (range_with_len 0 (length v)) ≡ out
-      → until (at_places f (ints number (replicate n k)) (ints number b)) (range_with_len 0 n) ≡ out
-  left_seen k b v n out v_is long is = ap (λ (b : List (Option T)). until (at_places f (ints number (replicate n k)) (ints number b)) (range_with_len 0 n)) (sym v_is) ∙ until-left k v n out (ap length v_is ∙ long) is
+      → until (λ i. f (of k) (of (get_or v i None))) (range_with_len 0 (length v)) ≡ out
+      → until (at_places f (map of (replicate n k)) (map of b)) (range_with_len 0 n) ≡ out
+  left_seen k b v n out v_is long is = ap (λ (b : List (Option T)). until (at_places f (map of (replicate n k)) (map of b)) (range_with_len 0 n)) (sym v_is) ∙ until-left k v n out (ap length v_is ∙ long) is
 
 -- what is made of each value and a constant, as what is made of two lists
 module _ {T : Type 0} (of : Option T → Value) (f : Value → Value → Computed) where
@@ -159,12 +159,7 @@ until-holds_from P f a (suc n) holds = step_holds P a (f a) (until f (range_with
 pub until-holds : (P : Value → Type 0) (f : ℕ → Computed) (n : ℕ) → ((i : ℕ) → i < n → IfOk (f i) P) → All P (until f (range_with_len 0 n)).values
 until-holds P f n holds = until-holds_from P f 0 n (λ i below. holds i (omega (arith, below)))
 
--- ---- truth values and texts
-
-pub truths_in_kind : (truths : List (Option Bool)) → All (InKind kinds.Bool) (map bool_value truths)
-truths_in_kind [] = All-nil (InKind kinds.Bool)
-truths_in_kind (Some truth ∷ truths) = All-cons (InKind kinds.Bool) (values.Bool truth) (map bool_value truths) tt (truths_in_kind truths)
-truths_in_kind (None ∷ truths) = All-cons (InKind kinds.Bool) values.Null (map bool_value truths) tt (truths_in_kind truths)
+-- ---- texts
 
 abbrev pub IsText : Option (List ℕ) → Type 0
 IsText text = IfSome text IsUtf8

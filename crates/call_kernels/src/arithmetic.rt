@@ -1,18 +1,19 @@
 // Arithmetic on arguments.
-ghost use Rattle.std.specs.Prelude.{◌≡◌, ◌<◌, ◌∷◌, [], ℕ, length, replicate, true, IfOk, IfSome};
+ghost use Rattle.std.specs.Prelude.{◌≡◌, ◌<◌, ◌∷◌, [], ℕ, length, replicate, false, true, IfOk, IfSome};
 ghost use Rattle.std.specs.List.{range_with_len};
 ghost use Rattle.sub_types.specs.Value.{InKind};
 ghost use Rattle.sub_types.specs.declared.kind.Kind.{Kind as kind_of};
 ghost use Rattle.sub_types.specs.declared.kind.Kind.TheVariants as kinds;
 ghost use Rattle.plan_denote.specs.Calls.{binary};
 ghost use Rattle.kernels.specs.Arith as arith_spec;
-ghost use Rattle.kernels.specs.Numbers.{ints};
+ghost use Rattle.kernels.specs.Numbers.{decs, ints};
 ghost use Rattle.kernels.specs.Until.{until};
 ghost use Rattle.call_kernels.specs.Made.{IsMade, at_places};
 ghost use Rattle.call_kernels.specs.Numbers.{listed};
 ghost use Rattle.call_kernels.specs.Operand.{values};
 
 use crate::Operand;
+use crate::decimals::arith_decimals;
 use crate::numbers::{Numbers, i8_numbers, i16_numbers, i32_numbers, i64_numbers};
 use batch::{Column, ColumnData};
 use col_fixed::{Fixed, Native};
@@ -35,8 +36,33 @@ pub(crate) fn operation_of(func: Func) -> Option<ArithOp>
     }
 }
 
-/// The results up to the first fault, and that fault, where both arguments are whole numbers of the result's kind.
+/// The results up to the first fault, and that fault, where both arguments are whole numbers of the result's kind, or decimals
+/// that are put together as they are.
 pub(crate) fn arith_two(
+    alloc: Global,
+    op: ArithOp,
+    mode: Overflow,
+    ty: Ty,
+    given: &[Kind],
+    a: Operand<'_>,
+    b: Operand<'_>,
+    n: usize,
+) -> Result<Option<(Column, Stop)>, NoMemory>
+    requires a { length (values n a) ≡ n }
+    requires b { length (values n b) ≡ n }
+    requires in_kind { (i : ℕ) → i < n → IfOk (at_places (binary (arith_spec.func_of op) ty.kind mode given.now) (values n a) (values n b) i) (InKind ty.kind) }
+    ensures { IfOk result (λ found. IfSome found (λ out. IsMade (at_places (binary (arith_spec.func_of op) ty.kind mode given.now) (values n a.entry) (values n b.entry)) n ty out.0 out.1)) }
+{
+    match ty.kind {
+        Kind::Decimal { precision, scale } => {
+            arith_decimals(alloc, op, mode, ty, precision, scale, given, a, b, n)
+        }
+        _ => arith_whole(alloc, op, mode, ty, given, a, b, n),
+    }
+}
+
+/// The same of whole numbers.
+fn arith_whole(
     alloc: Global,
     op: ArithOp,
     mode: Overflow,
@@ -202,8 +228,8 @@ fn arith_i64(
 }
 
 /// The results up to the first fault, and that fault, where one of the two is a column. The range is that of a kind of whole
-/// numbers.
-fn arith_numbers<T: Native>(
+/// numbers, or of decimals.
+pub(crate) fn arith_numbers<T: Native>(
     alloc: Global,
     op: ArithOp,
     mode: Overflow,
@@ -214,9 +240,12 @@ fn arith_numbers<T: Native>(
 ) -> Result<Option<(Fixed<T>, Stop)>, NoMemory>
     requires a { length (listed n a) ≡ n }
     requires b { length (listed n b) ≡ n }
-    ensures { IfOk result (λ found. IfSome found (λ out. (kind : kind_of) → arith_spec.IsWholeKind kind T.width (T.number range.0) (T.number range.1)
+    ensures whole { IfOk result (λ found. IfSome found (λ out. (kind : kind_of) → arith_spec.IsWholeKind kind T.width (T.number range.0) (T.number range.1)
         → until (at_places (binary (arith_spec.func_of op) kind mode (kind ∷ kind ∷ [])) (ints T.number (listed n a.entry)) (ints T.number (listed n b.entry))) (range_with_len 0 n)
         ≡ record { values = ints T.number out.0; stop = out.1 })) }
+    ensures decimal { IfOk result (λ found. IfSome found (λ out. (precision scale : ℕ) → arith_spec.IsDecimalKind precision T.width (T.number range.0) (T.number range.1) → arith_spec.divides op ≡ false
+        → until (at_places (binary (arith_spec.func_of op) (kinds.Decimal precision scale) mode (kinds.Decimal precision scale ∷ kinds.Decimal precision scale ∷ [])) (decs T.number (listed n a.entry)) (decs T.number (listed n b.entry))) (range_with_len 0 n)
+        ≡ record { values = decs T.number out.0; stop = out.1 })) }
 {
     match a {
         Numbers::Column(a) => match b {
@@ -242,9 +271,12 @@ fn arith_both<T: Native>(
 ) -> Result<Option<(Fixed<T>, Stop)>, NoMemory>
     requires a { length a.now ≡ n }
     requires b { length b.now ≡ n }
-    ensures { IfOk result (λ found. IfSome found (λ out. (kind : kind_of) → arith_spec.IsWholeKind kind T.width (T.number range.0) (T.number range.1)
+    ensures whole { IfOk result (λ found. IfSome found (λ out. (kind : kind_of) → arith_spec.IsWholeKind kind T.width (T.number range.0) (T.number range.1)
         → until (at_places (binary (arith_spec.func_of op) kind mode (kind ∷ kind ∷ [])) (ints T.number a.now) (ints T.number b.now)) (range_with_len 0 n)
         ≡ record { values = ints T.number out.0; stop = out.1 })) }
+    ensures decimal { IfOk result (λ found. IfSome found (λ out. (precision scale : ℕ) → arith_spec.IsDecimalKind precision T.width (T.number range.0) (T.number range.1) → arith_spec.divides op ≡ false
+        → until (at_places (binary (arith_spec.func_of op) (kinds.Decimal precision scale) mode (kinds.Decimal precision scale ∷ kinds.Decimal precision scale ∷ [])) (decs T.number a.now) (decs T.number b.now)) (range_with_len 0 n)
+        ≡ record { values = decs T.number out.0; stop = out.1 })) }
 {
     let found = arith(alloc, op, mode, range.0, range.1, a.view(), b.view())?;
     Ok(Some(found))
@@ -261,9 +293,12 @@ fn arith_right<T: Native>(
     n: usize,
 ) -> Result<Option<(Fixed<T>, Stop)>, NoMemory>
     requires { length a.now ≡ n }
-    ensures { IfOk result (λ found. IfSome found (λ out. (kind : kind_of) → arith_spec.IsWholeKind kind T.width (T.number range.0) (T.number range.1)
+    ensures whole { IfOk result (λ found. IfSome found (λ out. (kind : kind_of) → arith_spec.IsWholeKind kind T.width (T.number range.0) (T.number range.1)
         → until (at_places (binary (arith_spec.func_of op) kind mode (kind ∷ kind ∷ [])) (ints T.number a.now) (ints T.number (replicate n b))) (range_with_len 0 n)
         ≡ record { values = ints T.number out.0; stop = out.1 })) }
+    ensures decimal { IfOk result (λ found. IfSome found (λ out. (precision scale : ℕ) → arith_spec.IsDecimalKind precision T.width (T.number range.0) (T.number range.1) → arith_spec.divides op ≡ false
+        → until (at_places (binary (arith_spec.func_of op) (kinds.Decimal precision scale) mode (kinds.Decimal precision scale ∷ kinds.Decimal precision scale ∷ [])) (decs T.number a.now) (decs T.number (replicate n b))) (range_with_len 0 n)
+        ≡ record { values = decs T.number out.0; stop = out.1 })) }
 {
     let found = arith_with(alloc, op, mode, range.0, range.1, a.view(), b)?;
     Ok(Some(found))
@@ -280,9 +315,12 @@ fn arith_left<T: Native>(
     n: usize,
 ) -> Result<Option<(Fixed<T>, Stop)>, NoMemory>
     requires { length b.now ≡ n }
-    ensures { IfOk result (λ found. IfSome found (λ out. (kind : kind_of) → arith_spec.IsWholeKind kind T.width (T.number range.0) (T.number range.1)
+    ensures whole { IfOk result (λ found. IfSome found (λ out. (kind : kind_of) → arith_spec.IsWholeKind kind T.width (T.number range.0) (T.number range.1)
         → until (at_places (binary (arith_spec.func_of op) kind mode (kind ∷ kind ∷ [])) (ints T.number (replicate n a)) (ints T.number b.now)) (range_with_len 0 n)
         ≡ record { values = ints T.number out.0; stop = out.1 })) }
+    ensures decimal { IfOk result (λ found. IfSome found (λ out. (precision scale : ℕ) → arith_spec.IsDecimalKind precision T.width (T.number range.0) (T.number range.1) → arith_spec.divides op ≡ false
+        → until (at_places (binary (arith_spec.func_of op) (kinds.Decimal precision scale) mode (kinds.Decimal precision scale ∷ kinds.Decimal precision scale ∷ [])) (decs T.number (replicate n a)) (decs T.number b.now)) (range_with_len 0 n)
+        ≡ record { values = decs T.number out.0; stop = out.1 })) }
 {
     let found = arith_from(alloc, op, mode, range.0, range.1, a, b.view())?;
     Ok(Some(found))

@@ -13,6 +13,7 @@ use crate::Operand;
 use crate::arithmetic::{arith_two, operation_of};
 use crate::comparisons::{compare_two, comparison_of};
 use crate::made::truths;
+use crate::nulls::{is_not_null_one, is_null_one};
 use crate::texts::{TextTest, test_two, text_test_of};
 use crate::truths::{not_one, xor_two};
 use batch::Column;
@@ -34,6 +35,8 @@ pub fn call_one(
 {
     match func {
         Func::Not => by_not(alloc, func, ty, a, n),
+        Func::IsNull => by_null(alloc, func, ty, a, n),
+        Func::IsNotNull => by_there(alloc, func, ty, a, n),
         _ => Ok(None),
     }
 }
@@ -50,6 +53,36 @@ fn by_not(
     ensures { IfOk result (λ found. IfSome found (λ out. (mode : mode_of) (given : List kind_of) → IsMade (at_places (applied_one func ty.kind mode given) (values n a.entry) (values n a.entry)) n ty out.0 out.1)) }
 {
     let column = not_one(alloc, a)?;
+    Ok(truths(ty, column))
+}
+
+fn by_null(
+    alloc: Global,
+    func: Func,
+    ty: Ty,
+    a: Operand<'_>,
+    n: usize,
+) -> Result<Option<(Column, Stop)>, NoMemory>
+    requires of { func ≡ funcs.IsNull }
+    requires long { length (values n a) ≡ n }
+    ensures { IfOk result (λ found. IfSome found (λ out. (mode : mode_of) (given : List kind_of) → IsMade (at_places (applied_one func ty.kind mode given) (values n a.entry) (values n a.entry)) n ty out.0 out.1)) }
+{
+    let column = is_null_one(alloc, a)?;
+    Ok(truths(ty, column))
+}
+
+fn by_there(
+    alloc: Global,
+    func: Func,
+    ty: Ty,
+    a: Operand<'_>,
+    n: usize,
+) -> Result<Option<(Column, Stop)>, NoMemory>
+    requires of { func ≡ funcs.IsNotNull }
+    requires long { length (values n a) ≡ n }
+    ensures { IfOk result (λ found. IfSome found (λ out. (mode : mode_of) (given : List kind_of) → IsMade (at_places (applied_one func ty.kind mode given) (values n a.entry) (values n a.entry)) n ty out.0 out.1)) }
+{
+    let column = is_not_null_one(alloc, a)?;
     Ok(truths(ty, column))
 }
 

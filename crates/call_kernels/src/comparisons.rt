@@ -11,6 +11,7 @@ ghost use Rattle.call_kernels.specs.Functions.{compare_func};
 
 use crate::Operand;
 use crate::numbers::{Numbers, i8_numbers, i16_numbers, i32_numbers, i64_numbers, i128_numbers};
+use crate::text_order::compare_bytes;
 use batch::Storage;
 use col_fixed::{BoolCol, Fixed, Native};
 use kernels::{CompareOp, compare, compare_from, compare_with};
@@ -33,7 +34,7 @@ pub(crate) fn comparison_of(func: Func) -> Option<CompareOp>
     }
 }
 
-/// The comparison at each place, where both arguments are numbers of one type.
+/// The comparison at each place, where both arguments are numbers of one type, or both texts or binaries.
 pub(crate) fn compare_two(
     alloc: Global,
     op: CompareOp,
@@ -51,6 +52,7 @@ pub(crate) fn compare_two(
         Some(Storage::I32) => compare_i32(alloc, op, a, b, n),
         Some(Storage::I64) => compare_i64(alloc, op, a, b, n),
         Some(Storage::I128) => compare_i128(alloc, op, a, b, n),
+        Some(Storage::Bytes) => compare_bytes(alloc, op, a, b, n),
         _ => Ok(None),
     }
 }

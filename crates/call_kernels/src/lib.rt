@@ -1,14 +1,18 @@
 //! The functions of a plan on whole columns, by `kernels` where one fits the columns' types: comparisons and arithmetic of
-//! numbers of one type, tests of texts, `xor` and `not`. Each argument is a column or a constant, which isn't laid out as a
-//! column. Where no kernel fits, the answer is `None`; no clause says where one does.
+//! numbers of one type, comparisons of texts and binaries, tests of texts, tests for null, `xor` and `not`. Each argument is a
+//! column or a constant, which isn't laid out as a column. Where no kernel fits, the answer is `None`; no clause says where one
+//! does.
 #![tactic(auto)]
 
 mod arithmetic;
 mod call;
 mod comparisons;
+mod decimals;
 mod made;
+mod nulls;
 mod numbers;
 mod operand;
+mod text_order;
 mod texts;
 mod truths;
 

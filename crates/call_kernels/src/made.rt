@@ -1,14 +1,12 @@
 // Columns that kernels made, with their types.
-ghost use Rattle.std.specs.Prelude.{◌≡◌, ◌<◌, ℕ, List, length, map, Ok, IfOk, IfSome};
+ghost use Rattle.std.specs.Prelude.{◌≡◌, ◌<◌, ℕ, List, length, map, Ok, IfSome};
 ghost use Rattle.std.specs.Simd.Lanes.{zip2};
 ghost use Rattle.sub_types.specs.Nullable.{bool_value};
-ghost use Rattle.sub_types.specs.declared.kind.Kind.TheVariants as kinds;
 ghost use Rattle.sub_types.specs.declared.value.Value as values;
 ghost use Rattle.plan_denote.specs.Computed as computed;
-ghost use Rattle.batch.specs.ColumnValues.{values_of};
 ghost use Rattle.call_kernels.specs.Made.{IsMade, at_places};
 
-use batch::{Column, ColumnData};
+use batch::Column;
 use col_fixed::BoolCol;
 use kernels::Stop;
 use sub_types::{Kind, Ty};
@@ -21,21 +19,9 @@ pub(crate) fn truths(ty: Ty, column: Option<BoolCol>) -> Option<(Column, Stop)>
 {
     match column {
         Some(known) => match ty.kind {
-            Kind::Bool => Some((truth_column(ty, known), Stop::Never)),
+            Kind::Bool => Some((Column::of_truths(ty, known), Stop::Never)),
             _ => None,
         },
         None => None,
-    }
-}
-
-/// Truth values as a column.
-fn truth_column(ty: Ty, column: BoolCol) -> Column
-    requires { ty.kind ≡ kinds.Bool }
-    ensures values { values_of result.values ≡ map bool_value column }
-    ensures ty { result.ty ≡ ty }
-{
-    Column {
-        ty,
-        values: ColumnData::Bool(column),
     }
 }

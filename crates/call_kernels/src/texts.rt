@@ -1,5 +1,5 @@
 // Tests of texts.
-ghost use Rattle.std.specs.Prelude.{◌≡◌, ◌+◌, ℕ, length, map, Ok, IfOk, IfSome, option_copied};
+ghost use Rattle.std.specs.Prelude.{◌≡◌, ◌+◌, ℕ, length, map, replicate, Ok, IfOk, IfSome, option_copied};
 ghost use Rattle.std.specs.Str.{IsUtf8};
 ghost use Rattle.std.specs.Simd.Lanes.{zip2};
 ghost use Rattle.sub_types.specs.Nullable.{bool_value, bytes_value};
@@ -13,6 +13,7 @@ use crate::Operand;
 use batch::ColumnData;
 use col_fixed::{BoolBuilder, BoolCol};
 use col_text::TextCol;
+use memchr::memmem::Finder;
 use plan_typed::Func;
 use std::alloc::Global;
 use sub_types::{Kind, NoMemory, Value};
@@ -26,9 +27,9 @@ pub(crate) enum TextTest {
     Like,
 }
 
-/// A column of texts, or one text at each place, or null.
+/// A column of texts or binaries, or one at each place, or null.
 #[derive(Drop)]
-enum Texts<'a> {
+pub(crate) enum Texts<'a> {
     Column(&'a TextCol),
     Constant(Option<&'a [u8]>),
 }
@@ -64,7 +65,7 @@ pub(crate) fn test_two(
     let Some(right) = texts_of(b) else {
         return Ok(None);
     };
-    Ok(Some(test_texts(alloc, test, &left, &right, n)?))
+    Ok(Some(test_each(alloc, test, &left, &right, n)?))
 }
 
 /// The texts that an argument is, if it is made of them.
@@ -100,6 +101,100 @@ fn constant_text(value: &Value) -> Option<Option<&[u8]>>
         Value::Null => Some(None),
         _ => None,
     }
+}
+
+/// The test at each place. Where one pattern is sought in all texts, the search for it is made once.
+fn test_each(
+    alloc: Global,
+    test: TextTest,
+    a: &Texts<'_>,
+    b: &Texts<'_>,
+    n: usize,
+) -> Result<BoolCol, NoMemory>
+    requires a { length (spec.listed n a.now) ≡ n }
+    requires b { length (spec.listed n b.now) ≡ n }
+    requires a_utf8 { spec.AreTexts a.now }
+    requires b_utf8 { spec.AreTexts b.now }
+    ensures { IfOk result (λ column. map (λ truth. Ok (bool_value truth)) column ≡ zip2 (texts.tested (passes test)) (map bytes_value (spec.listed n a.now)) (map bytes_value (spec.listed n b.now))) }
+{
+    match test {
+        TextTest::Contains => contain_two(alloc, a, b, n),
+        _ => test_texts(alloc, test, a, b, n),
+    }
+}
+
+/// Whether each text contains the other.
+fn contain_two(alloc: Global, a: &Texts<'_>, b: &Texts<'_>, n: usize) -> Result<BoolCol, NoMemory>
+    requires a { length (spec.listed n a.now) ≡ n }
+    requires b { length (spec.listed n b.now) ≡ n }
+    requires a_utf8 { spec.AreTexts a.now }
+    requires b_utf8 { spec.AreTexts b.now }
+    ensures { IfOk result (λ column. map (λ truth. Ok (bool_value truth)) column ≡ zip2 (texts.tested texts.contains) (map bytes_value (spec.listed n a.now)) (map bytes_value (spec.listed n b.now))) }
+{
+    match b {
+        Texts::Column(_) => test_texts(alloc, TextTest::Contains, a, b, n),
+        Texts::Constant(pattern) => contain_constant(alloc, a, b, *pattern, n),
+    }
+}
+
+/// Whether each text contains the pattern that the others are.
+fn contain_constant(
+    alloc: Global,
+    a: &Texts<'_>,
+    b: &Texts<'_>,
+    pattern: Option<&[u8]>,
+    n: usize,
+) -> Result<BoolCol, NoMemory>
+    requires a { length (spec.listed n a.now) ≡ n }
+    requires b { length (spec.listed n b.now) ≡ n }
+    requires a_utf8 { spec.AreTexts a.now }
+    requires b_utf8 { spec.AreTexts b.now }
+    requires pattern { IfSome (option_copied pattern) IsUtf8 }
+    requires constant { spec.listed n b.now ≡ replicate n (option_copied pattern) }
+    ensures { IfOk result (λ column. map (λ truth. Ok (bool_value truth)) column ≡ zip2 (texts.tested texts.contains) (map bytes_value (spec.listed n a.now)) (map bytes_value (spec.listed n b.now))) }
+{
+    match pattern {
+        Some(pattern) => contain_each(alloc, a, pattern, n),
+        None => test_texts(alloc, TextTest::Contains, a, b, n),
+    }
+}
+
+/// Whether each text contains the pattern.
+fn contain_each(
+    alloc: Global,
+    all: &Texts<'_>,
+    pattern: &[u8],
+    n: usize,
+) -> Result<BoolCol, NoMemory>
+    requires long { length (spec.listed n all.now) ≡ n }
+    requires texts { spec.AreTexts all.now }
+    requires pattern { IsUtf8 pattern.now }
+    ensures { IfOk result (λ column. map (λ truth. Ok (bool_value truth)) column ≡ zip2 (texts.tested texts.contains) (map bytes_value (spec.listed n all.now)) (replicate n (worth.Bytes pattern.now))) }
+{
+    let finder = Finder::new(pattern);
+    let mut column = BoolBuilder::with_capacity(alloc, n)?;
+    for i in 0..n {
+        column.push(contained(&finder, text_at(all, i)))?;
+    }
+    Ok(column.finish())
+}
+
+/// Whether a text that may be missing contains what is sought.
+fn contained(finder: &Finder<'_>, text: Option<&[u8]>) -> Option<bool>
+    requires text { IfSome (option_copied text) IsUtf8 }
+    requires pattern { IsUtf8 finder.now }
+    ensures { Ok (bool_value result) ≡ texts.tested texts.contains (bytes_value (option_copied text.entry)) (worth.Bytes finder.now) }
+{
+    match text {
+        Some(text) => Some(is_found(finder, text)),
+        None => None,
+    }
+}
+
+fn is_found(finder: &Finder<'_>, text: &[u8]) -> bool
+    ensures { result ≡ texts.contains text.now finder.now }
+{
+    finder.find(text).is_some()
 }
 
 /// The test at each place.

@@ -51,11 +51,16 @@ bit_at_255 (suc (suc (suc (suc (suc (suc zero)))))) below = refl
 bit_at_255 (suc (suc (suc (suc (suc (suc (suc zero))))))) below = refl
 bit_at_255 (suc (suc (suc (suc (suc (suc (suc (suc r)))))))) below = absurd (omega arith)
 
+-- whether a slot is valid, by the bit of its byte
+pub valid_bit : (valid : List Bool) (bytes : List ℕ) (k : ℕ) → bits_of (length valid) bytes ≡ valid → k < length valid → get_or valid k false ≡ (bit_at (get_or bytes (k / 8) 0) (k % 8) == 1)
+valid_bit valid bytes k bits below =
+    ap (λ xs. get_or xs k false) (sym bits)
+    ∙ get_or-map-range_with_len (bit_of bytes) 0 (length valid) k k false below (zero-add k)
+
 -- under a byte of 255 each slot is valid
 valid_255 : (valid : List Bool) (bytes : List ℕ) (place k : ℕ) → bits_of (length valid) bytes ≡ valid → get_or bytes place 0 ≡ 255 → k / 8 ≡ place → k < length valid → get_or valid k false ≡ true
 valid_255 valid bytes place k bits full here below =
-    ap (λ xs. get_or xs k false) (sym bits)
-    ∙ get_or-map-range_with_len (bit_of bytes) 0 (length valid) k k false below (zero-add k)
+    valid_bit valid bytes k bits below
     ∙ ap (λ byte. bit_at byte (k % 8) == 1) (ap (λ i. get_or bytes i 0) here ∙ full)
     ∙ bit_at_255 (k % 8) (omega arith)
 

@@ -1,5 +1,7 @@
 // A column of numbers (Arrow columnar format, fixed-size primitive layout).
-ghost use Rattle.std.specs.Prelude.{◌≡◌, ◌↔◌, ◌+◌, ◌<◌, ◌∷◌, ◌++◌, List, [], Some, None, length, vec_len, map, replicate, is_some, slice_index_or, All, IfOk, OnOk, OnErr, IsTrue};
+ghost use Rattle.std.specs.Prelude.{◌≡◌, ◌↔◌, ◌+◌, ◌*◌, ◌<◌, ◌==◌, ◌∷◌, ◌++◌, List, [], Some, None, length, vec_len, map, replicate, is_some, slice_index_or, All, IfOk, OnOk, OnErr, IsTrue};
+ghost use Rattle.std.specs.Int.{bit_at};
+ghost use Rattle.sub_types.specs.Bits.{bits_of};
 ghost use Rattle.sub_types.specs.Optional.{optional};
 ghost use Rattle.sub_types.specs.Slots.{slots};
 ghost use Rattle.col_fixed.specs.Column.{IsColumn, IsClearedBelow};
@@ -195,23 +197,34 @@ fn clear_nulls<T: Native>(values: &mut Vec<T>, valid: &Bits)
     let bytes = valid.bytes();
     'bytes: for place in 0..bytes.len() {
         if bytes[place] != 255 {
-            clear_eight(values, valid, 8 * place);
+            clear_eight(values, valid, bytes, place);
         }
     }
 }
 
-// Puts zero into those of the next eight slots that aren't valid.
-fn clear_eight<T: Native>(values: &mut Vec<T>, valid: &Bits, from: usize)
+// Puts zero into those of the eight slots of a byte of `bytes`, which are the bits of `valid`, that aren't valid.
+fn clear_eight<T: Native>(values: &mut Vec<T>, valid: &Bits, bytes: &[u8], place: usize)
     requires long { vec_len values.old ≡ length valid.now }
-    requires within { from < length valid.now }
-    ensures { (start : List T) → IsClearedBelow T.zero start values.old.items valid.now from
-        → IsClearedBelow T.zero start values.new.items valid.now (from + 8) }
+    requires bits { bits_of (length valid.now) bytes.now ≡ valid.now }
+    requires within { place < length bytes.now }
+    requires below { 8 * place < length valid.now }
+    ensures { (start : List T) → IsClearedBelow T.zero start values.old.items valid.now (8 * place)
+        → IsClearedBelow T.zero start values.new.items valid.now (8 * place + 8) }
 {
+    let byte = bytes[place];
+    let from = 8 * place;
     let rest = valid.len() - from;
     let to = if rest < 8 { valid.len() } else { from + 8 };
     for i in from..to {
-        if !valid.get(i) {
+        if !is_set(byte, i % 8) {
             values[i] = T::zero();
         }
     }
+}
+
+fn is_set(byte: u8, place: usize) -> bool
+    requires { place < 8 }
+    ensures { result ≡ (bit_at byte place == 1) }
+{
+    byte >> place & 1 == 1
 }

@@ -1,2 +1,3 @@
 pub mod ValueLaws
 pub mod LoopLaws
+pub mod PlaceLaws

@@ -22,8 +22,9 @@ ghost use Rattle.batch_nodes.specs.Parts as parts;
 ghost use Rattle.kernels.specs.declared.selection.Stop.TheVariants as stops;
 
 use crate::leaves::{column, constant};
-use crate::lists::{earlier, places_of, repeated};
+use crate::lists::{earlier, repeated};
 use crate::nodes::{Chosen, Columns, call_values, cast_values, if_values, switch_values};
+use crate::places::places_of;
 use crate::quick::is_quick;
 use among_constants::among_constants;
 use batch::{Batch, Column};

@@ -7,6 +7,7 @@ mod eval;
 mod leaves;
 mod lists;
 mod nodes;
+mod places;
 mod quick;
 mod selected;
 

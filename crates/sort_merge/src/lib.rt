@@ -3,7 +3,6 @@
 //! order.
 #![tactic(auto)]
 
-mod joined;
 mod order;
 mod prefixes;
 mod run_laws;

@@ -9,9 +9,8 @@ ghost use Rattle.batch.specs.BatchRows.{rows_of, types_of};
 ghost use Rattle.batch_places.specs.Places.{is_there, row_there, first_types};
 ghost use Rattle.sort_merge.specs.RowOrder.{place_cmp};
 
-use crate::joined::joined;
 use crate::order::ordered_places;
-use batch::Batch;
+use batch::{Batch, join_batches};
 use batch_places::{Place, all_places, are_few, batches_at, gather_in_parts, is_row};
 use rel_specs::KeyOrder;
 use row_keys::compare_keys;
@@ -41,7 +40,7 @@ pub fn interleave(
         return interleave_places(alloc, keys, first, &runs);
     }
     let types = types_in(alloc, first)?;
-    let whole = joined(alloc, &types, &runs)?;
+    let whole = join_batches(alloc, &types, &runs)?;
     drop(runs);
     batches_in_order(alloc, keys, &whole)
 }

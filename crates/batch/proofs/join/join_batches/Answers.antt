@@ -9,9 +9,9 @@ loop-index-preserved c =
 pub invariant_of-result : goal.invariant_of-result
 invariant_of-result c =
     let done : c.loop-index.index ≡ length c.args.types.now = omega arith in
-    record { sized = JoinedColumns-sized c.args.types.now c.args.parts.now c.loop-index.columns.items c.loop-index.index c.total_rows.result done c.total_rows.ensures c.requires.alike c.loop-index.invariant }
+    record { sized = JoinedColumns-sized c.args.types.now c.args.parts.now c.loop-index.columns.items c.loop-index.index c.total_rows-rows.result done c.total_rows-rows.ensures c.requires.alike c.loop-index.invariant }
 
 pub returns-clause-rows : goal.returns-clause-rows
 returns-clause-rows c =
     let done : c.loop-index.index ≡ length c.args.types.now = omega arith in
-    JoinedColumns-rows c.args.types.now c.args.parts.now c.loop-index.columns.items c.loop-index.index c.total_rows.result done c.total_rows.ensures c.requires.alike c.loop-index.invariant
+    JoinedColumns-rows c.args.types.now c.args.parts.now c.loop-index.columns.items c.loop-index.index c.total_rows-rows.result done c.total_rows-rows.ensures c.requires.alike c.loop-index.invariant

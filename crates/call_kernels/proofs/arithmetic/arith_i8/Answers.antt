@@ -17,7 +17,7 @@ arith_numbers-requires-clause-b c = long_ints {T = ℤ} (λ x. x) (listed c.args
 
 pub invariant_of-column : goal.invariant_of-column
 invariant_of-column c =
-    let law = (rw c.in-Some-2.is at c.in_ok-found.ensures) kinds.I8 is_i8 in
+    let law = (rw c.in-Some-2.is at c.in_ok-found.ensures.whole) kinds.I8 is_i8 in
     record {
       valid_kind = subst IsKind (sym c.requires.kind) tt;
       stored = ap kind_storage (sym c.requires.kind);
@@ -27,6 +27,6 @@ invariant_of-column c =
 
 pub returns : goal.returns
 returns c =
-    let law = (rw c.in-Some-2.is at c.in_ok-found.ensures) kinds.I8 is_i8 in
+    let law = (rw c.in-Some-2.is at c.in_ok-found.ensures.whole) kinds.I8 is_i8 in
     results_made c.args.op c.args.mode c.args.ty kinds.I8 c.requires.kind c.args.n (ints (λ (x : ℤ). x) (listed c.args.n c.in-Some.left)) (ints (λ (x : ℤ). x) (listed c.args.n c.in-Some-i8_numbers.right)) (values c.args.n c.args.a) (values c.args.n c.args.b)
     (c.in-Some.ensures c.args.n) (c.in-Some-i8_numbers.ensures c.args.n) c.in-Some-2.found.0 c.in-Some-2.found.1 law _ refl refl

@@ -7,6 +7,6 @@ use Rattle.call_kernels.proofs.made.truths.Goals as goal
 
 pub returns-in-Bool : goal.returns-in-Bool
 returns-in-Bool c = λ f a b n long_a long_b is.
-    made_truths f a b n c.args.ty c.in-Some.known c.truth_column.result long_a long_b
+    made_truths f a b n c.args.ty c.in-Some.known c.of_truths.result long_a long_b
     (subst (λ (column : Option (List (Option Bool))). IfSome column (λ truths. map (λ truth. Ok (bool_value truth)) truths ≡ zip2 f a b)) c.in-Some.is is)
-    c.truth_column.ensures.values c.truth_column.ensures.ty
+    c.of_truths.ensures.values c.of_truths.ensures.ty

@@ -14,8 +14,8 @@ returns-in_default-clause-rows c =
     let none = sym c.deref.ensures.value ∙ no_first c.deref.result.now c.in_default.ensures.value in
     none_sorted c.args.keys.now (flat_map rows_of c.args.runs.items) (flat_map rows_of c.new.result.items) (ap (flat_map rows_of) none) (ap (flat_map rows_of) c.new.ensures.items)
 
-pub joined-requires-clause-alike : goal.joined-requires-clause-alike
-joined-requires-clause-alike c =
+pub join_batches-requires-clause-alike : goal.join_batches-requires-clause-alike
+join_batches-requires-clause-alike c =
     let runs = c.args.runs.items in
     let first = c.in-Some.first.now in
     let is : Some first ≡ slice_get runs 0 = c.in-Some.ensures.value ∙ ap (λ l. slice_get l 0) c.deref.ensures.value in
