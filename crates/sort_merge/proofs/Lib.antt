@@ -4,3 +4,4 @@ pub mod PlaceLaws
 pub mod PrefixLaws
 pub mod RisingLaws
 pub mod RowLaws
+pub mod TieLaws

@@ -9,6 +9,7 @@ mod run_laws;
 mod runs;
 mod scale;
 mod sort;
+mod ties;
 
 pub use run_laws::sorted_runs_are_the_whole;
 pub use runs::interleave;

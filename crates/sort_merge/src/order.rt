@@ -8,6 +8,7 @@ ghost use Rattle.sort_merge.specs.RowOrder.{place_cmp};
 
 use crate::prefixes::{prefix_of, prefixed_rows, row_of};
 use crate::scale::{Scale, scale_of};
+use crate::ties::order_ties;
 use batch::Batch;
 use rel_specs::KeyOrder;
 use row_keys::compare_keys;
@@ -32,22 +33,22 @@ pub(crate) fn ordered_places(
         return places_in_order(alloc, keys, batch);
     }
     let scale = scale_of(keys, batch);
-    let rows = rows_in_order(alloc, keys, batch, &scale)?;
-    places_of(alloc, &rows)
+    let mut rows = rows_in_order(alloc, keys, batch, &scale)?;
+    keep_places(&mut rows);
+    Ok(rows)
 }
 
-// The places of rows.
-fn places_of(alloc: Global, rows: &[u64]) -> Result<Vec<u64>, NoMemory>
-    ensures { IfOk result (λ places. places.items ≡ map spec.row_of rows.now) }
+// Leaves of rows only their places.
+#[tactic(auto, using(crate::proofs::TieLaws::place_kept, crate::proofs::TieLaws::places_kept))]
+fn keep_places(rows: &mut Vec<u64>)
+    ensures { rows.new.items ≡ map spec.row_of rows.old.items }
 {
-    let mut places = Vec::with_capacity(alloc, rows.len())?;
-    for one in rows {
-        places.push(row_of(*one))?;
+    for i in 0..rows.len() {
+        rows[i] = row_of(rows[i]);
     }
-    Ok(places)
 }
 
-// All rows in order: first by their numbers, which compare fast, so that mostly no row is moved after that.
+// All rows in order: first by their numbers, which compare fast, and then those of one prefix by their keys.
 fn rows_in_order(
     alloc: Global,
     keys: &[KeyOrder],
@@ -61,7 +62,7 @@ fn rows_in_order(
 {
     let mut rows = prefixed_rows(alloc, keys, batch, scale)?;
     rows.sort()?;
-    rows.sort_by(|a, b| compare_rows(keys, batch, *a, *b))?;
+    order_ties(alloc, keys, batch, &mut rows)?;
     Ok(rows)
 }
 
@@ -89,8 +90,8 @@ fn all_rows(alloc: Global, rows: u64) -> Result<Vec<u64>, NoMemory>
     Ok(places)
 }
 
-// Two rows by their prefixes, and where these are equal by their keys.
-fn compare_rows(keys: &[KeyOrder], batch: &Batch, a: u64, b: u64) -> Ordering
+/// Two rows by their prefixes, and where these are equal by their keys.
+pub(crate) fn compare_rows(keys: &[KeyOrder], batch: &Batch, a: u64, b: u64) -> Ordering
     requires columns { All (λ key. key.column < length batch.now.columns.items) keys.now }
     ensures { result ≡ spec.prefixed_cmp keys.now (has_row batch.now) (row_at batch.now) a b }
 {
