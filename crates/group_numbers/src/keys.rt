@@ -1,12 +1,13 @@
 // The keys of groups.
 ghost use Rattle.std.specs.Prelude.{◌≡◌, ◌<◌, ◌∷◌, ◌++◌, [], Some, map, not, length, All, IfOk, OnOk, slice_get, slice_index_or, if◌then◌else◌};
-ghost use Rattle.std.specs.List.{list_any};
+ghost use Rattle.std.specs.List.{list_any, range_with_len};
 ghost use Rattle.plan_denote.specs.Distinct.{is_same_row};
 ghost use Rattle.group_keys.specs.Keys.{with_item, is_same_bytes};
 ghost use Rattle.row_keys.specs.Keys.{key_of};
 ghost use Rattle.row_keys.specs.KeyBytes.{bytes_of_key};
 ghost use Rattle.group_numbers.specs.Keys.{IsKept, AreAt, with_keys, keys_at};
 
+use crate::twins::twins_of;
 use batch::Batch;
 use group_keys::group_of_bytes;
 use indexmap::IndexSet;
@@ -142,6 +143,31 @@ impl GroupKeys {
         Ok(place.number)
     }
 
+    /// The number of a row's group, behind those of the rows before it: that of a row with the same key, where there is one.
+    fn number_by_twin(
+        &mut self,
+        alloc: Global,
+        batch: &Batch,
+        columns: &[u32],
+        row: u64,
+        twin: u64,
+        numbers: &[usize],
+    ) -> Result<usize, NoMemory>
+        requires kept { IsKept self.old }
+        requires row { row < batch.now.rows }
+        requires columns { All (λ column. column < length batch.now.columns.items) columns.now }
+        requires same { key_of columns.now batch.now twin ≡ key_of columns.now batch.now row }
+        requires numbers { AreAt self.old.rows numbers.now (map (key_of columns.now batch.now) (range_with_len 0 row)) }
+        ensures kept { OnOk result (IsKept self.new) }
+        ensures rows { OnOk result (self.new.rows ≡ with_item is_same_row self.old.rows (key_of columns.now batch.now row)) }
+        ensures number { IfOk result (λ number. slice_get self.new.rows number ≡ Some (key_of columns.now batch.now row)) }
+    {
+        if twin < row {
+            return Ok(numbers[twin as usize]);
+        }
+        self.number_of(alloc, batch, columns, row)
+    }
+
     /// The numbers of the groups of a batch's rows, by the values of these columns. A key that is new makes a group.
     pub fn numbers_of(
         &mut self,
@@ -155,9 +181,11 @@ impl GroupKeys {
         ensures rows { OnOk result (self.new.rows ≡ with_keys self.old.rows (keys_at columns.now batch.now)) }
         ensures numbers { IfOk result (λ numbers. AreAt self.new.rows numbers.items (keys_at columns.now batch.now)) }
     {
-        let mut numbers = Vec::new(alloc);
+        let twins = twins_of(alloc, batch, columns)?;
+        let mut numbers = Vec::with_capacity(alloc, batch.rows as usize)?;
         for row in 0..batch.rows {
-            let number = self.number_of(alloc, batch, columns, row)?;
+            let twin = twins[row as usize];
+            let number = self.number_by_twin(alloc, batch, columns, row, twin, numbers.as_slice())?;
             numbers.push(number)?;
         }
         Ok(numbers)

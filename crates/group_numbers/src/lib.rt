@@ -3,6 +3,7 @@
 #![tactic(auto)]
 
 mod keys;
+mod twins;
 
 ghost use Rattle.std.specs.Prelude.{◌≡◌, ◌++◌, List};
 ghost use Rattle.plan_denote.specs.Computed.{Row};

@@ -11,7 +11,7 @@ use Rattle.group_numbers.proofs.keys.GroupKeys.numbers_of.Goals as goal
 pub loop-row-preserved : goal.loop-row-preserved
 loop-row-preserved c =
     let before = c.loop-row.self.rows in
-    let after = c.number_of.new.self.rows in
+    let after = c.number_by_twin.new.self.rows in
     let key = key_of c.args.columns.now c.args.batch.now c.loop-row.row in
     let keys = map (key_of c.args.columns.now c.args.batch.now) (range_with_len 0 c.loop-row.row) in
     let more = map-range_with_len_more (key_of c.args.columns.now c.args.batch.now) 0 c.loop-row.row c.loop-row.row (omega arith) in
