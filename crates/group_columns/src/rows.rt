@@ -1,12 +1,14 @@
 // What a measure takes of rows goes to their groups.
 ghost use Rattle.std.specs.Prelude.{◌≡◌, ◌+◌, ◌<◌, ◌≤◌, ◌^◌, true, length, slice_index_or, All, IfOk, OnOk, if◌then◌else◌};
 ghost use Rattle.sub_types.specs.declared.value.Value.TheVariants.{Null};
+ghost use Rattle.sub_types.specs.Nullable.{int_value};
+ghost use Rattle.batch.specs.ColumnValues.{values_of as column_values_of};
 ghost use Rattle.plan_denote.specs.Computed.{is_true as spec_is_true};
 ghost use Rattle.group_tallies.specs.Kept.{tallies_in, keeping_in, tally_at, with_tally, kept_of};
 ghost use Rattle.group_columns.specs.Columns.{IsWhole, count_in, values_or_true, tests_of, values_of, members_of, with_members};
 
 use crate::taken::Taken;
-use batch::Column;
+use batch::{Column, ColumnData};
 use eval_values::is_true;
 use group_tallies::Tallies;
 use std::alloc::Global;
@@ -36,6 +38,7 @@ pub(crate) fn add_rows(
 }
 
 /// Adds what a measure takes of one of so many rows, where the next value has this place, and gives the place of the next one.
+#[inline(always)]
 fn add_row(
     alloc: Global,
     tallies: &mut Tallies,
@@ -65,6 +68,7 @@ fn add_row(
 }
 
 /// The value at a place of a column, and true where there is none.
+#[inline(always)]
 fn value_or_true(
     alloc: Global,
     column: &Option<Column>,
@@ -75,7 +79,29 @@ fn value_or_true(
     ensures { IfOk result (λ value. value ≡ slice_index_or (values_or_true rows column.now) place Null) }
 {
     match column {
-        Some(column) => column.values.value_at(alloc, place),
+        Some(column) => value_in(alloc, &column.values, place),
         None => Ok(Value::Bool(true)),
+    }
+}
+
+/// The value at a place of a column. A number of 64 bits is read where it stands.
+#[inline(always)]
+fn value_in(alloc: Global, column: &ColumnData, place: usize) -> Result<Value, NoMemory>
+    requires { place < length (column_values_of column.now) }
+    ensures { IfOk result (λ value. value ≡ slice_index_or (column_values_of column.now) place Null) }
+{
+    match column {
+        ColumnData::I64(numbers) => Ok(number_or_null(numbers.value_at(place))),
+        _ => column.value_at(alloc, place),
+    }
+}
+
+#[inline(always)]
+fn number_or_null(number: Option<i64>) -> Value
+    ensures { result ≡ int_value number }
+{
+    match number {
+        Some(number) => Value::Int(number),
+        None => Value::Null,
     }
 }
