@@ -1,18 +1,15 @@
 -- Pieces up to their first fault, and pieces behind others.
-use Rattle.std.proofs.Common.{◌≡◌, ◌∙◌, ◌+◌, ◌<◌, ℕ, length, get_or, take, List, [], ◌∷◌, ◌++◌, Option, Some, None, map, refl, sym, ap, ap₂, subst, append_assoc}
-use Rattle.std.specs.List.{All, AllByRecursion, flat_map}
-use Rattle.std.proofs.lemmas.Grind.{flat_map-append}
+use Rattle.std.proofs.Common.{◌≡◌, ◌∙◌, ◌+◌, ◌<◌, ℕ, length, get_or, take, List, [], ◌∷◌, ◌++◌, Option, Some, None, map, refl, sym, ap, subst, append_assoc}
+use Rattle.std.specs.List.{All, AllByRecursion}
 use Rattle.std.proofs.lemmas.List.{append-nil, map-append, map_push, take_more}
 use Rattle.std.proofs.lemmas.List.Elements.{All-nil, All-cons}
 use Rattle.sub_types.specs.declared.fault.Fault.{Fault}
-use Rattle.sub_types.specs.Stream.{Stream, rows_alone, ended, followed_by, glue}
+use Rattle.sub_types.specs.Stream.{Stream, rows_alone, followed_by, glue}
 use Rattle.sub_types.proofs.StreamLaws.{glue-append}
-use Rattle.batch.specs.declared.batch.Batch.{Batch}
 use Rattle.batch.specs.declared.batch.Piece.{Piece}
 use Rattle.batch.specs.BatchRows.{rows_of, stream_of_piece}
 use Rattle.plan_denote.specs.Rows.{Row}
 use Rattle.set_rels.specs.Inputs.{stream_of, rows_in}
-use Rattle.set_rels.proofs.PieceLaws.{stream_of_batches}
 use Rattle.pipe_ends.specs.Given.{behind, up_to_fault}
 
 -- a stream of these rows and this end
@@ -51,10 +48,6 @@ alone : (rows : List Row) (end : Option Fault) → followed_by (stream rows end)
 alone rows None = ap (λ all. stream all None) (append-nil rows)
 alone rows (Some fault) = refl
 
--- rows and then an end
-pub rows_and_end : (rows : List Row) (end : Option Fault) → followed_by (rows_alone rows) (ended end) ≡ stream rows end
-rows_and_end rows end = ap (λ all. stream all end) (append-nil rows)
-
 -- one piece more
 same_alone : (s : Stream Row) → followed_by s (rows_alone []) ≡ s
 same_alone s = alone s.rows s.end
@@ -72,40 +65,6 @@ one_stream pieces piece s is same = ap stream_of is ∙ same_alone (stream_of_pi
 
 pub one_holds : (P : Piece → Type 0) (pieces : List Piece) (piece : Piece) → pieces ≡ piece ∷ [] → P piece → All P pieces
 one_holds P pieces piece is here = subst (All P) (sym is) (All-cons P piece [] here (All-nil P))
-
--- the rows of batches up to the first fault
-rows_of_batches : (pieces : List Piece) → flat_map rows_of (map (λ (piece : Piece). piece.batch) pieces) ≡ rows_in pieces
-rows_of_batches [] = refl
-rows_of_batches (piece ∷ pieces) = ap (λ more. rows_of piece.batch ++ more) (rows_of_batches pieces)
-
-pub rows_counted : (batches : List Batch) (pieces : List Piece) (end : Option Fault) → batches ≡ map (λ (piece : Piece). piece.batch) (up_to_fault pieces) → end ≡ (stream_of pieces).end → stream (flat_map rows_of batches) end ≡ stream_of pieces
-rows_counted batches pieces end are end_is =
-    ap₂ stream
-    (ap (flat_map rows_of) are ∙ rows_of_batches (up_to_fault pieces) ∙ all_count pieces ∙ ap (λ (s : Stream Row). s.rows) (same_stream pieces))
-    end_is
-
--- rows in batches, and then an end
-pub and_end_is : (pieces all : List Piece) (batches : List Batch) (rows : List Row) (end : Option Fault) → map stream_of_piece all ≡ map stream_of_piece pieces ++ ended end ∷ [] → map (λ (piece : Piece). piece.batch) pieces ≡ batches
-    → All (λ (piece : Piece). piece.end ≡ None) pieces → flat_map rows_of batches ≡ rows → stream_of all ≡ stream rows end
-and_end_is pieces all batches rows end more are none rows_is =
-    ap glue more
-    ∙ glue-append (map stream_of_piece pieces) (ended end ∷ [])
-    ∙ ap (followed_by (stream_of pieces)) (alone [] end)
-    ∙ ap (λ s. followed_by s (ended end)) (stream_of_batches pieces batches are none ∙ ap rows_alone rows_is)
-    ∙ rows_and_end rows end
-
-rows_by : (pieces : List Piece) → rows_in pieces ≡ flat_map (λ (s : Stream Row). s.rows) (map stream_of_piece pieces)
-rows_by [] = refl
-rows_by (piece ∷ pieces) = ap (λ more. rows_of piece.batch ++ more) (rows_by pieces)
-
-pub and_end_rows : (pieces all : List Piece) (batches : List Batch) (rows : List Row) (end : Option Fault) → map stream_of_piece all ≡ map stream_of_piece pieces ++ ended end ∷ [] → map (λ (piece : Piece). piece.batch) pieces ≡ batches
-    → flat_map rows_of batches ≡ rows → rows_in all ≡ rows
-and_end_rows pieces all batches rows end more are rows_is =
-    rows_by all
-    ∙ ap (flat_map (λ (s : Stream Row). s.rows)) more
-    ∙ flat_map-append (λ (s : Stream Row). s.rows) (map stream_of_piece pieces) (ended end ∷ [])
-    ∙ append-nil (flat_map (λ (s : Stream Row). s.rows) (map stream_of_piece pieces))
-    ∙ sym (rows_by pieces) ∙ sym (rows_of_batches pieces) ∙ ap (flat_map rows_of) are ∙ rows_is
 
 -- one item more, of a list that is gone over
 pub mapped_more : {A B C : Type 0} (f : A → C) (g : B → C) (old new : List A) (x : A) (y : B) (all rest : List B) (whole : List C) → all ≡ y ∷ rest → new ≡ old ++ x ∷ [] → f x ≡ g y → map f old ++ map g all ≡ whole

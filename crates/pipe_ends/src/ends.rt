@@ -1,12 +1,12 @@
 // Where pieces end.
-ghost use Rattle.std.specs.Prelude.{◌≡◌, ◌∷◌, [], take, map, is_some, All, IfOk};
+ghost use Rattle.std.specs.Prelude.{◌≡◌, ◌∷◌, [], take, is_some, All, IfOk};
 ghost use Rattle.sub_types.specs.Stream.{ended};
 ghost use Rattle.batch.specs.BatchRows.{rows_of, types_of};
 ghost use Rattle.set_rels.specs.Inputs.{stream_of};
 ghost use Rattle.pipe_steps.specs.Ready.{IsFit};
 ghost use Rattle.pipe_ends.specs.Given as spec;
 
-use batch::{Batch, Piece};
+use batch::Piece;
 use std::alloc::Global;
 use sub_types::{Fault, NoMemory, Ty};
 
@@ -87,11 +87,4 @@ fn count_to_fault(pieces: &[Piece]) -> usize
         }
     }
     pieces.len()
-}
-
-/// The batches of pieces.
-pub(crate) fn batches_of(alloc: Global, pieces: Vec<Piece>) -> Result<Vec<Batch>, NoMemory>
-    ensures { IfOk result (λ batches. batches.items ≡ map (λ piece. piece.batch) pieces.items) }
-{
-    Ok(pieces.into_iter().map(|piece| piece.batch).collect(alloc)?)
 }

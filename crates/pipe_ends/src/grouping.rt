@@ -1,25 +1,21 @@
-// Aggregates: over one set of groups by batches, and over several by their rows.
+// Aggregates over one set of groups and over several, by batches.
 ghost use Rattle.std.specs.Prelude.{◌≡◌, All, IfOk};
 ghost use Rattle.batch.specs.BatchRows.{types_of};
 ghost use Rattle.set_rels.specs.Inputs.{stream_of};
 ghost use Rattle.plan_pipes.specs.RowMeaning.{aggregated_by, grouped_by};
 ghost use Rattle.pipe_types.specs.Over.{IsBreakerOver};
 ghost use Rattle.plan_pipes.specs.declared.pipe.Breaker.TheVariants as breakers;
-ghost use Rattle.row_steps.specs.Seen.{seen};
 ghost use Rattle.pipe_steps.specs.Ready.{IsFit};
 ghost use Rattle.pipe_types.specs.Exact.{gathered_types};
 ghost use Rattle.aggregate.specs.States.{IsOver, IsOf, IsFor};
+ghost use Rattle.group_sets.specs.States.{IsOver as AreSetsOver, IsOf as AreSetsOf, IsFor as AreSetsFor};
 
 use crate::ends::one_piece;
 use crate::kinds::are_kinds;
-use crate::rows::{pieces_of_rows, rows_of_pieces};
-use crate::set_groups::sets_in;
-use crate::types::grouping_types;
 use aggregate::Partial;
 use batch::Piece;
+use group_sets::SetsPartial;
 use rel_specs::{AggSpec, SetSpec};
-use row_groups::grouping_sets;
-use row_steps::RowStream;
 use std::alloc::Global;
 use sub_types::{NoMemory, Ty};
 
@@ -70,7 +66,8 @@ fn partial_of(
     Ok(partial)
 }
 
-/// The rows of an aggregate over several sets of groups, over pieces of these types. More than 64 sets are `NoMemory`: no plan has
+/// The rows of an aggregate over several sets of groups, over pieces of these types, by what is known of the groups of each piece's
+/// rows in turn. Where the types of the pieces may not stand in a plan, that is `NoMemory`, and so are more than 64 sets: no plan has
 /// them.
 pub(crate) fn grouped_pieces(
     alloc: Global,
@@ -85,31 +82,34 @@ pub(crate) fn grouped_pieces(
     ensures typed { IfOk result (λ out. All (λ piece. types_of piece.batch ≡ gathered_types (breakers.GroupSets spec.now) types.now) out.items) }
     ensures fit { IfOk result (λ out. All (λ piece. IsFit piece.batch) out.items) }
 {
-    let given = grouping_types(alloc, spec)?;
-    if !are_kinds(&given) {
+    if !are_kinds(types) {
         return Err(NoMemory);
     }
     if spec.sets.len() > MAX_GROUPINGS {
         return Err(NoMemory);
     }
-    let rows = grouped_rows(alloc, spec, pieces)?;
-    let out = pieces_of_rows(alloc, &given, rows)?;
+    let partial = sets_partial_of(alloc, spec, types, &pieces)?;
+    let piece = partial.finals(spec)?;
+    let out = one_piece(alloc, piece)?;
     Ok(out)
 }
 
-// The same, as rows.
-fn grouped_rows(alloc: Global, spec: &SetSpec, pieces: Vec<Piece>) -> Result<RowStream, NoMemory>
-    ensures { IfOk result (λ s. seen s ≡ grouped_by spec.now (stream_of pieces.items)) }
+// What is known of the rows of pieces of these types, over several sets of groups.
+fn sets_partial_of(
+    alloc: Global,
+    spec: &SetSpec,
+    types: &[Ty],
+    pieces: &[Piece],
+) -> Result<SetsPartial, NoMemory>
+    requires over { AreSetsOver types.now spec.now }
+    requires typed { All (λ piece. types_of piece.batch ≡ types.now) pieces.now }
+    requires fit { All (λ piece. IsFit piece.batch) pieces.now }
+    ensures of { IfOk result (λ partial. AreSetsOf spec.now (stream_of pieces.now) partial) }
+    ensures over { IfOk result (λ partial. AreSetsFor types.now spec.now partial) }
 {
-    let input = rows_of_pieces(alloc, pieces)?;
-    let sets = sets_in(alloc, &spec.sets)?;
-    let rows = grouping_sets(
-        alloc,
-        spec.relation,
-        &spec.groups,
-        &sets,
-        &spec.measures,
-        input,
-    )?;
-    Ok(rows)
+    let mut partial = SetsPartial::new(alloc, spec)?;
+    for piece in pieces {
+        let _end = partial.fold_batch(spec, piece)?;
+    }
+    Ok(partial)
 }

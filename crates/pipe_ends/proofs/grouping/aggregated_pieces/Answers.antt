@@ -1,11 +1,11 @@
-use Rattle.std.proofs.Common.{◌≡◌, ◌∙◌, List, All, sym, ap, subst}
+use Rattle.std.proofs.Common.{◌≡◌, List, All, sym, ap, subst}
 use Rattle.std.proofs.lemmas.List.Elements.{All-from_recursion, recursion_from_All}
 use Rattle.sub_types.specs.Kind.{IsKind}
 use Rattle.sub_types.specs.Stream.{Stream}
 use Rattle.sub_types.specs.Value.{Fits}
 use Rattle.sub_types.specs.declared.kind.Ty.{Ty}
 use Rattle.batch.specs.declared.batch.Piece.{Piece}
-use Rattle.batch.specs.BatchRows.{rows_of, types_of, stream_of_piece}
+use Rattle.batch.specs.BatchRows.{rows_of, types_of}
 use Rattle.plan_denote.specs.Rows.{Row}
 use Rattle.plan_pipes.specs.declared.pipe.Breaker.TheVariants as breakers
 use Rattle.plan_pipes.specs.RowMeaning.{aggregated_by}

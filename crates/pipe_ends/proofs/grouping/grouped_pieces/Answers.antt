@@ -1,27 +1,62 @@
-use Rattle.std.proofs.Common.{Vec, Global, ◌≤◌, ℕ, ◌∙◌, List, All, sym, ap, subst, length, arith}
+use Rattle.std.proofs.Common.{Vec, Global, ◌≡◌, ◌≤◌, ℕ, List, All, length, sym, ap, subst, arith}
 use Rattle.std.proofs.lemmas.List.{length-map}
-use Rattle.std.proofs.lemmas.List.Elements.{All-from_recursion}
+use Rattle.std.proofs.lemmas.List.Elements.{All-from_recursion, recursion_from_All}
+use Rattle.sub_types.specs.Kind.{IsKind}
 use Rattle.sub_types.specs.Stream.{Stream}
 use Rattle.sub_types.specs.Value.{Fits}
 use Rattle.sub_types.specs.declared.kind.Ty.{Ty}
+use Rattle.batch.specs.declared.batch.Piece.{Piece}
+use Rattle.batch.specs.BatchRows.{rows_of, types_of}
 use Rattle.plan_denote.specs.Rows.{Row}
 use Rattle.plan_pipes.specs.declared.pipe.Breaker.TheVariants as breakers
 use Rattle.plan_pipes.specs.RowMeaning.{grouped_by, sets_of}
 use Rattle.denote_typed.proofs.RowsLaws.{Rows}
 use Rattle.denote_typed.proofs.GroupSetLaws.{grouping_sets_fit}
 use Rattle.set_rels.specs.Inputs.{stream_of}
+use Rattle.group_sets.specs.States.{IsOf}
 use Rattle.pipe_types.specs.Exact.{gathered_types}
+use Rattle.pipe_steps.specs.Ready.{IsFit}
+use Rattle.pipe_ends.proofs.EndLaws.{one_stream, one_holds}
 use Rattle.pipe_ends.proofs.FitLaws.{own_rows}
 use Rattle.pipe_ends.proofs.grouping.grouped_pieces.Goals as goal
 
-pub pieces_of_rows-requires-clause-fit : goal.pieces_of_rows-requires-clause-fit
-pieces_of_rows-requires-clause-fit c =
+pub sets_partial_of-requires-clause-over : goal.sets_partial_of-requires-clause-over
+sets_partial_of-requires-clause-over c = record {
+  kinds = recursion_from_All (λ (ty : Ty). IsKind ty.kind) c.args.types.now (c.are_kinds.ensures.0 c.if-not-are_kinds.false);
+  groups = c.requires.over.0;
+  measures = c.requires.over.3;
+  few = omega (arith, length-map c.args.spec.now.sets.items (λ (set : Vec ℕ Global). set.items), c.args.spec.now.sets.ok.0);
+}
+
+pub sets_partial_of-requires-clause-fit : goal.sets_partial_of-requires-clause-fit
+sets_partial_of-requires-clause-fit c = subst (All (λ (piece : Piece). IsFit piece.batch)) (sym c.deref.ensures.value) c.requires.fit
+
+pub finals-requires : goal.finals-requires
+finals-requires c = record { over = (c.args.types.now, c.in_ok-partial.ensures.over) }
+
+pub returns-clause-stream : goal.returns-clause-stream
+returns-clause-stream c =
+    let spec = c.args.spec.now in
+    let pieces = c.args.pieces.items in
+    let of : IsOf spec (stream_of pieces) c.in_ok-partial.partial = subst (λ (all : List Piece). IsOf spec (stream_of all) c.in_ok-partial.partial) c.deref.ensures.value c.in_ok-partial.ensures.of in
+    one_stream c.in_ok-out.out.items c.in_ok-piece.piece (grouped_by spec (stream_of pieces)) c.in_ok-out.ensures (c.in_ok-piece.ensures.stream (stream_of pieces) of)
+
+pub returns-clause-typed : goal.returns-clause-typed
+returns-clause-typed c =
+    one_holds (λ (piece : Piece). types_of piece.batch ≡ gathered_types (breakers.GroupSets c.args.spec.now) c.args.types.now) c.in_ok-out.out.items c.in_ok-piece.piece c.in_ok-out.ensures c.in_ok-piece.ensures.types
+
+pub returns-clause-fit : goal.returns-clause-fit
+returns-clause-fit c =
     let spec = c.args.spec.now in
     let types = c.args.types.now in
-    let s = stream_of c.args.pieces.items in
+    let pieces = c.args.pieces.items in
+    let piece = c.in_ok-piece.piece in
+    let s = stream_of pieces in
     let given = gathered_types (breakers.GroupSets spec) types in
+    let of : IsOf spec s c.in_ok-partial.partial = subst (λ (all : List Piece). IsOf spec (stream_of all) c.in_ok-partial.partial) c.deref.ensures.value c.in_ok-partial.ensures.of in
     let few : length (sets_of spec) ≤ 64 = omega (arith, length-map spec.sets.items (λ (set : Vec ℕ Global). set.items), spec.sets.ok.0) in
     let fits : Rows (Fits given) (grouped_by spec s) =
-    grouping_sets_fit types spec.groups.items (sets_of spec) spec.measures.items c.requires.over.0 few c.requires.over.3 spec.relation s (own_rows types c.args.pieces.items c.requires.typed c.requires.fit) in
-    subst (λ (own : List Ty). All (Fits own) c.in_ok-rows.rows.rows) (sym (c.deref-2.ensures.value ∙ c.in_ok-given.ensures))
-    (subst (All (Fits given)) (sym (ap (λ (one : Stream Row). one.rows) c.in_ok-rows.ensures)) (All-from_recursion (Fits given) (grouped_by spec s).rows fits))
+    grouping_sets_fit types spec.groups.items (sets_of spec) spec.measures.items c.requires.over.0 few c.requires.over.3 spec.relation s (own_rows types pieces c.requires.typed c.requires.fit) in
+    let rows : All (Fits given) (rows_of piece.batch) =
+    subst (All (Fits given)) (sym (ap (λ (one : Stream Row). one.rows) (c.in_ok-piece.ensures.stream s of))) (All-from_recursion (Fits given) (grouped_by spec s).rows fits) in
+    one_holds (λ (one : Piece). IsFit one.batch) c.in_ok-out.out.items piece c.in_ok-out.ensures (subst (λ (own : List Ty). All (Fits own) (rows_of piece.batch)) (sym c.in_ok-piece.ensures.types) rows)
