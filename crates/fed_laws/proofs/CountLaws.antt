@@ -1,9 +1,9 @@
 -- No read relation's number stands twice where all relations have different ones.
-use Rattle.std.proofs.Common.{◌≡◌, ◌∙◌, ℕ, ◌+◌, ◌≤◌, List, [], ◌∷◌, ◌++◌, Bool, true, cond, ◌==◌, map, refl, sym, ap, subst, arith}
+use Rattle.std.proofs.Common.{◌≡◌, ℕ, ◌+◌, ◌≤◌, List, [], ◌∷◌, ◌++◌, Bool, true, cond, ◌==◌, map, refl, sym, ap, subst, arith}
 use Rattle.std.proofs.lemmas.Bool.{eq-eqb}
 use Rattle.std.proofs.lemmas.List.Sums.{sum_by-append}
 use Rattle.std.specs.List.{AllByRecursion, concat, count_by, flat_map}
-use Rattle.plan_typed.specs.declared.rel.Op.{Op, out-Op, roll-Op, map-Op, fold-Op, fold-roll-Op}
+use Rattle.plan_typed.specs.declared.rel.Op.{Op, roll-Op, map-Op, fold-Op, fold-roll-Op}
 use Rattle.plan_typed.specs.declared.rel.Op.TheFolds.{ind-Rel}
 use Rattle.plan_typed.specs.declared.rel.Op.TheOpen.{Op-F}
 use Rattle.plan_typed.specs.declared.rel.Rel.{Rel, Rel-F, roll-Rel, map-Rel, fold-roll-Rel}
