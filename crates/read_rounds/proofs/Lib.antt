@@ -1,0 +1,4 @@
+mod FileLaws
+mod HeldLaws
+mod OpenLaws
+mod PlaceLaws

@@ -1,0 +1,38 @@
+use Rattle.std.proofs.Common.{◌≡◌, ◌∙◌, ℕ, length, map, sym, ap, subst, arith}
+use Rattle.std.specs.List.{All}
+use Rattle.run_core.specs.Receipts.{lists_of, IsBalanced}
+use Rattle.plan_pipes.specs.Run.{through}
+use Rattle.plan_pipes.specs.RowMeaning.{row_steps}
+use Rattle.pipe_steps.specs.Tables.{tables_seen}
+use Rattle.pipe_work.specs.declared.held.HeldPiece.{HeldPiece}
+use Rattle.read_rounds.proofs.HeldLaws.{all_ready, all_typed, held_count, held_stream}
+use Rattle.read_rounds.proofs.pieces.pass_pieces.Goals as goal
+
+pub hold_pieces-requires-clause-typed : goal.hold_pieces-requires-clause-typed
+hold_pieces-requires-clause-typed g c = all_typed c.args.pipe.now.types c.args.pieces.items c.requires.stored
+
+pub hold_pieces-requires-clause-ready : goal.hold_pieces-requires-clause-ready
+hold_pieces-requires-clause-ready g c = all_ready c.args.pipe.now.types c.args.pipe.now.steps c.args.pieces.items c.requires.stored
+
+pub run_pieces-requires-clause-count : goal.run_pieces-requires-clause-count
+run_pieces-requires-clause-count g c κs within =
+    let pieces = c.args.pieces in
+    let many : length c.deref.result.now ≡ length pieces.items = held_count c.in_ok-held.held.items c.deref.result.now pieces.items c.deref.ensures.value c.in_ok-held.ensures.held in
+    omega (arith, many, pieces.ok.0, c.in-Some.ensures.count, c.in-Some.ensures.few)
+
+pub run_pieces-requires-clause-of_pipe : goal.run_pieces-requires-clause-of_pipe
+run_pieces-requires-clause-of_pipe g c κs within = subst (All (λ (one : HeldPiece). one.pipe.now ≡ c.args.pipe.now)) (sym c.deref.ensures.value) c.in_ok-held.ensures.of_pipe
+
+pub returns-clause-balanced : goal.returns-clause-balanced
+returns-clause-balanced g c =
+    let pieces = c.args.pieces in
+    let round = c.in_ok-round.round in
+    let many : length c.deref.result.now ≡ length pieces.items = held_count c.in_ok-held.held.items c.deref.result.now pieces.items c.deref.ensures.value c.in_ok-held.ensures.held in
+    let all : length c.deref.result.now ≡ c.in-Some.batches = many ∙ sym pieces.ok.0 ∙ sym c.in-Some.ensures.count in
+    subst (λ (n : ℕ). IsBalanced n (map lists_of round.receipts.items) round.left.items) all c.in_ok-round.ensures.balanced
+
+pub returns-clause-rows : goal.returns-clause-rows
+returns-clause-rows g c =
+    let pipe = c.args.pipe.now in
+    c.in_ok-round.ensures.stream
+    ∙ ap (through row_steps (tables_seen pipe.tables) pipe.steps) (held_stream c.in_ok-held.held.items c.deref.result.now c.args.pieces.items c.deref.ensures.value c.in_ok-held.ensures.held)
