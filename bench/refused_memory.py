@@ -2,7 +2,7 @@
 
     python3 bench/refused_memory.py BINARY
 
-BINARY is the program, which takes its memory by the C library's `malloc` and `realloc`. Each of three commands is run once to count
+BINARY is the program, which takes its memory by the C library's `malloc` and `realloc` and ends by its `_exit`. Each of three commands is run once to count
 how often it does, and then once for each of these, which alone finds no memory. Each must then say `no memory` and end with that
 number, with OUT not made or a prefix of the answer's file and no other file changed, or give the whole answer, where it did without
 the memory. Needs `cc`. A line a command, and at the end the status 1 where any run did otherwise."""
@@ -18,6 +18,8 @@ SHIM = r"""
 #include <stdio.h>
 #include <stdlib.h>
 #include <stdatomic.h>
+#include <sys/syscall.h>
+#include <unistd.h>
 extern void *__libc_malloc(size_t), *__libc_realloc(void *, size_t);
 static atomic_long count;
 static long refused;
@@ -25,11 +27,12 @@ __attribute__((constructor)) static void begin(void) { char *n = getenv("REFUSED
 static int is_refused(void) { return ++count == refused; }
 void *malloc(size_t n) { return is_refused() ? NULL : __libc_malloc(n); }
 void *realloc(void *p, size_t n) { return is_refused() ? NULL : __libc_realloc(p, n); }
-__attribute__((destructor)) static void end(void) {
+void _exit(int status) {
     long counted = count;
     char *name = getenv("COUNTED");
     FILE *file = name ? fopen(name, "w") : NULL;
     if (file) { fprintf(file, "%ld", counted); fclose(file); }
+    for (;;) syscall(SYS_exit_group, status);
 }
 """
 NO_MEMORY = 9, b"no memory\n"
