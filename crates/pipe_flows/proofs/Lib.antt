@@ -1,0 +1,2 @@
+mod FlowLaws
+mod ReceiptLaws

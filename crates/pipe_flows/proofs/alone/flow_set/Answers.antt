@@ -1,0 +1,27 @@
+use Rattle.std.proofs.Common.{◌≡◌, ◌∙◌, List, [], map, slice_index_or, sym, subst}
+use Rattle.sub_types.specs.declared.kind.Ty.{Ty}
+use Rattle.sub_types.specs.Stream.{rows_alone}
+use Rattle.plan_denote.specs.Sets.{set_rows}
+use Rattle.set_rels.specs.Inputs.{stream_of}
+use Rattle.pipe_ends.specs.Given.{IsInput}
+use Rattle.pipe_flows.proofs.FlowLaws.{over_as, rows_as, types_as}
+use Rattle.pipe_flows.proofs.alone.flow_set.Goals as goal
+
+pub pass_fed-requires-clause-over : goal.pass_fed-requires-clause-over
+pass_fed-requires-clause-over g c κs within =
+    let tables : c.deref.result.now ≡ c.args.stores.now.tables.items = c.deref.ensures.value ∙ c.in_ok-fed.ensures.tables in
+    over_as c.args.steps.now c.deref.result.now c.args.stores.now.tables.items c.in_ok-fed.fed.types.items (c.args.types.now) tables c.in_ok-fed.ensures.stored c.requires.over
+
+pub pass_fed-requires-clause-input : goal.pass_fed-requires-clause-input
+pass_fed-requires-clause-input g c κs within = subst (λ (types : List Ty). IsInput types c.in_ok-fed.fed.pieces.items) (sym c.in_ok-fed.ensures.stored) c.in_ok-fed.ensures.input
+
+pub returns-clause-stored : goal.returns-clause-stored
+returns-clause-stored g c =
+    let tables : c.deref.result.now ≡ c.args.stores.now.tables.items = c.deref.ensures.value ∙ c.in_ok-fed.ensures.tables in
+    c.in_ok-given.ensures.stored ∙ types_as c.args.steps.now c.deref.result.now c.args.stores.now.tables.items c.in_ok-fed.fed.types.items (c.args.types.now) tables c.in_ok-fed.ensures.stored
+
+pub returns-clause-rows : goal.returns-clause-rows
+returns-clause-rows g c = λ streams are.
+    let tables : c.deref.result.now ≡ c.args.stores.now.tables.items = c.deref.ensures.value ∙ c.in_ok-fed.ensures.tables in
+    c.in_ok-given.ensures.rows
+    ∙ rows_as c.args.steps.now c.deref.result.now c.args.stores.now.tables.items c.in_ok-fed.fed.types.items (c.args.types.now) tables (stream_of c.in_ok-fed.fed.pieces.items) (set_rows c.args.op (map (λ at. slice_index_or streams at (rows_alone [])) c.args.pipes.now)) (c.in_ok-fed.ensures.rows streams are)
