@@ -1,12 +1,13 @@
 -- Results of all rows at once.
-use Rattle.std.proofs.Common.{◌≡◌, ◌∙◌, ℕ, zero, suc, ◌+◌, ◌<◌, ◌≤◌, ℤ, List, [], ◌∷◌, Bool, true, false, ◌&&◌, ◌||◌, cond, length, map, get_or, set, take, replicate, Option, Some, None, is_some, unwrap_or, option_map, Ok, Err, IfOk, IfSome, Vec, Result, inl, inr, FitsSigned, refl, sym, ap, ap₂, subst, arith}
+use Rattle.std.proofs.Common.{◌≡◌, ◌∙◌, ℕ, zero, suc, ◌+◌, ◌<◌, ◌≤◌, ℤ, List, [], ◌∷◌, Bool, true, false, ◌&&◌, ◌||◌, cond, length, map, get_or, set, take, replicate, Option, Some, None, is_some, unwrap_or, option_map, Ok, Err, IfOk, IfSome, Vec, Result, inl, inr, FitsSigned, ◌++◌, ◌-◌, append_assoc, refl, sym, ap, ap₂, subst, arith}
 use Rattle.std.specs.Prelude.{int_lt}
 use Rattle.std.specs.Bool.{FalseIff}
 use Rattle.std.specs.Int.{Width, int_wrap}
 use Rattle.std.specs.List.{range_with_len}
+use Rattle.std.proofs.Math.Seq.{set-append_seam}
 use Rattle.std.proofs.lemmas.Bool.{cases_lt}
 use Rattle.std.proofs.lemmas.Int.{int_wrap_fits}
-use Rattle.std.proofs.lemmas.List.{get_or-set_same, get_or-set_other, length-set, get_or-map, length-map, take_more, take_all, get_or-replicate}
+use Rattle.std.proofs.lemmas.List.{get_or-set_same, get_or-set_other, length-set, get_or-map, length-map, take_more, take_all, get_or-replicate, length-replicate, length-append, append-nil}
 use Rattle.sub_types.specs.declared.fault.FaultKind.{FaultKind}
 use Rattle.sub_types.specs.BitSteps.{both}
 use Rattle.sub_types.specs.Optional.{optional}
@@ -39,6 +40,29 @@ same_default (z ∷ xs) zero d e lt = refl
 same_default (z ∷ xs) (suc i) d e lt = same_default xs i d e (omega arith)
 
 module _ {T : Type 0} (op : ArithOp) (number : T → ℤ) (filler least greatest : T) (a b : List T) where
+  -- a list of results as it will be, with a filler at the places that are to come
+  abbrev filled : List T → ℕ → List T
+  filled values i = values ++ replicate (length a - i) filler
+
+  pub length-filled : (values : List T) → values ≡ [] → length (filled values 0) ≡ length a
+  length-filled values none = ap (λ l. length (filled l 0)) none ∙ length-replicate (length a - 0) filler ∙ omega arith
+
+  pub filled-more : (values new : List T) (i : ℕ) (value : T) → length values ≡ i → i < length a → new ≡ values ++ value ∷ [] → filled new (i + 1) ≡ set (filled values i) i value
+  filled-more values new i value long below grown =
+      let rest = replicate (length a - (i + 1)) filler in
+      let left : length a - i ≡ suc (length a - (i + 1)) = omega arith in
+      ap (λ l. l ++ rest) grown
+      ∙ append_assoc values (value ∷ []) rest
+      ∙ sym (set-append_seam values filler rest value)
+      ∙ ap (λ n. set (values ++ filler ∷ rest) n value) long
+      ∙ ap (λ n. set (values ++ replicate n filler) i value) (sym left)
+
+  pub filled-all : (values : List T) (i : ℕ) → length a ≤ i → filled values i ≡ values
+  filled-all values i past = let none : length a - i ≡ 0 = omega arith in ap (λ n. values ++ replicate n filler) none ∙ append-nil values
+
+  pub length-more : (values new : List T) (i : ℕ) (value : T) → length values ≡ i → new ≡ values ++ value ∷ [] → length new ≡ i + 1
+  length-more values new i value long grown = ap length grown ∙ length-append values (value ∷ []) ∙ omega (arith, long)
+
   -- the results so far, unless one was lost
   pub record KeepsResults (values : List T) (i : ℕ) (lost : Bool) : Type 0 where
     pub long : length values ≡ length a
@@ -77,6 +101,14 @@ module _ {T : Type 0} (op : ArithOp) (number : T → ℤ) (filler least greatest
             ];
           }
 
+  pub KeepsResults-all : (values : List T) (i : ℕ) (lost : Bool) → KeepsResults (filled values i) i lost → length a ≤ i → lost ≡ false → AreResults op number filler least greatest a b values (length a)
+  KeepsResults-all values i lost kept end fine =
+      let is = filled-all values i end in
+      record {
+        long = ap length (sym is) ∙ kept.long;
+        results = λ k lt. subst (λ l. IsResult op (number least) (number greatest) (number (get_or a k filler)) (number (get_or b k filler)) (number (get_or l k filler))) is ((kept.results fine).results k (omega arith));
+      }
+
   -- the valid results so far, unless one was lost
   pub record KeepsValid (valid : List Bool) (values : List T) (i : ℕ) (lost : Bool) : Type 0 where
     pub long : length values ≡ length a
@@ -112,8 +144,13 @@ module _ {T : Type 0} (op : ArithOp) (number : T → ℤ) (filler least greatest
                 (subst (λ x. IsResult op (number least) (number greatest) (number x) (number y) (number value)) at_a new)))
           ]
 
-  pub KeepsValid-all : (valid : List Bool) (values : List T) (i : ℕ) (lost : Bool) → KeepsValid valid values i lost → length a ≤ i → lost ≡ false → AreValid op number filler least greatest a b valid values
-  KeepsValid-all valid values i lost kept end fine = record { long = kept.long; results = λ k lt there. kept.results fine k (omega arith) there }
+  pub KeepsValid-all : (valid : List Bool) (values : List T) (i : ℕ) (lost : Bool) → KeepsValid valid (filled values i) i lost → length a ≤ i → lost ≡ false → AreValid op number filler least greatest a b valid values
+  KeepsValid-all valid values i lost kept end fine =
+      let is = filled-all values i end in
+      record {
+        long = ap length (sym is) ∙ kept.long;
+        results = λ k lt there. subst (λ l. IsResult op (number least) (number greatest) (number (get_or a k filler)) (number (get_or b k filler)) (number (get_or l k filler))) is (kept.results fine k (omega arith) there);
+      }
 
   -- all results are those at the valid places
   pub all_valid : (valid : List Bool) (values : List T) → AreResults op number filler least greatest a b values (length a) → AreValid op number filler least greatest a b valid values

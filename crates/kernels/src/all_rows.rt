@@ -20,11 +20,11 @@ pub(crate) fn compute_all<T: Native>(
     requires { length a.now ≡ length b.now }
     ensures { IfOk result (λ all. IfSome all (λ values. spec.AreResults op T.number T.zero range.0 range.1 a.now b.now values.items (length a.now))) }
 {
-    let mut values = vec![in alloc; T::zero(); a.len()]?;
+    let mut values = Vec::with_capacity(alloc, a.len())?;
     let mut lost = false;
     for i in 0..a.len() {
         let (value, is_lost) = combine(op, a[i], b[i]);
-        values[i] = value;
+        values.push_reserved(value);
         lost = lost | is_lost | is_beyond(value, range);
     }
     if lost {
@@ -43,11 +43,11 @@ pub(crate) fn compute_all_constant<T: Native>(
 ) -> Result<Option<Vec<T>>, NoMemory>
     ensures { IfOk result (λ all. IfSome all (λ values. spec.AreResults op T.number T.zero range.0 range.1 a.now (replicate (length a.now) constant) values.items (length a.now))) }
 {
-    let mut values = vec![in alloc; T::zero(); a.len()]?;
+    let mut values = Vec::with_capacity(alloc, a.len())?;
     let mut lost = false;
     for i in 0..a.len() {
         let (value, is_lost) = combine(op, a[i], constant);
-        values[i] = value;
+        values.push_reserved(value);
         lost = lost | is_lost | is_beyond(value, range);
     }
     if lost {
@@ -69,11 +69,11 @@ pub(crate) fn compute_valid<T: Native>(
     requires valid { length valid.now ≡ length a.now }
     ensures { IfOk result (λ all. IfSome all (λ values. spec.AreValid op T.number T.zero range.0 range.1 a.now b.now valid.now values.items)) }
 {
-    let mut values = vec![in alloc; T::zero(); a.len()]?;
+    let mut values = Vec::with_capacity(alloc, a.len())?;
     let mut lost = false;
     for i in 0..a.len() {
         let (value, is_lost) = combine(op, a[i], b[i]);
-        values[i] = value;
+        values.push_reserved(value);
         lost = lost | (is_lost | is_beyond(value, range)) & valid.get(i);
     }
     if lost {
@@ -94,11 +94,11 @@ pub(crate) fn compute_valid_constant<T: Native>(
     requires { length valid.now ≡ length a.now }
     ensures { IfOk result (λ all. IfSome all (λ values. spec.AreValid op T.number T.zero range.0 range.1 a.now (replicate (length a.now) constant) valid.now values.items)) }
 {
-    let mut values = vec![in alloc; T::zero(); a.len()]?;
+    let mut values = Vec::with_capacity(alloc, a.len())?;
     let mut lost = false;
     for i in 0..a.len() {
         let (value, is_lost) = combine(op, a[i], constant);
-        values[i] = value;
+        values.push_reserved(value);
         lost = lost | (is_lost | is_beyond(value, range)) & valid.get(i);
     }
     if lost {
