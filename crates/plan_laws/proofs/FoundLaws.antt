@@ -18,7 +18,7 @@ module _ {A : Type 0} (number : A → ℕ) where
   abbrev pub with_number : ℕ → List A → ℕ
   with_number n items = count_by (λ (item : A). number item == n) items
 
-  abbrev IsThere : List A → A → Type 0
+  abbrev pub IsThere : List A → A → Type 0
   IsThere items item = 1 ≤ with_number (number item) items
 
   first_there : (test : Bool) (count later : ℕ) → test ≡ true → count ≡ cond test 1 0 + later → 1 ≤ count
@@ -28,7 +28,7 @@ module _ {A : Type 0} (number : A → ℕ) where
   still_there : (test : Bool) (count later : ℕ) → count ≡ cond test 1 0 + later → 1 ≤ later → 1 ≤ count
   still_there test count later split more = omega (arith, split, more)
 
-  all_there : (items : List A) → AllByRecursion (IsThere items) items
+  pub all_there : (items : List A) → AllByRecursion (IsThere items) items
   all_there [] = tt
   all_there (first ∷ rest) = (
     first_there (number first == number first) (with_number (number first) (first ∷ rest)) (with_number (number first) rest) (same_number (number first)) (count_by-cons (λ (item : A). number item == number first) first rest),

@@ -21,7 +21,7 @@ use Rattle.plan_laws.proofs.Levels.{by_inputs, level_reads, reads_are}
 
 -- how many pass a test, in lists one after the other and in order
 module _ {A : Type 0} (p : A → Bool) where
-  count_both : (xs ys : List A) → count_by p (xs ++ ys) ≡ count_by p xs + count_by p ys
+  pub count_both : (xs ys : List A) → count_by p (xs ++ ys) ≡ count_by p xs + count_by p ys
   count_both xs ys = sum_by-append (λ x. cond (p x) 1 0) xs ys
 
   count_more : (x : A) (xs : List A) → count_by p xs ≤ count_by p (x ∷ xs)
@@ -70,13 +70,13 @@ module _ (number : ℕ) where
   abbrev pub reads_with : List PlanRead → ℕ
   reads_with reads = count_by has_it reads
 
-  abbrev is_it : ℕ → Bool
+  abbrev pub is_it : ℕ → Bool
   is_it one = one == number
 
-  abbrev times : List ℕ → ℕ
+  abbrev pub times : List ℕ → ℕ
   times numbers = count_by is_it numbers
 
-  abbrev IsFewer : Rel → Type 0
+  abbrev pub IsFewer : Rel → Type 0
   IsFewer rel = reads_with (reads_in rel) ≤ times (numbers_of rel)
 
   both_fewer : (left right : Rel) → IsFewer left → IsFewer right → reads_with (reads_in left ++ reads_in right) ≤ times (numbers_of left ++ numbers_of right)
@@ -114,10 +114,10 @@ module _ (number : ℕ) where
       (subst (λ (numbers : List ℕ). reads_with reads ≤ times numbers) (sym (numbers_are rel)) (level_fewer (out-Op level.op) level.number h))
 
   -- a relation has no more read relations of a number than relations
-  rel_fewer : (rel : Rel) → reads_with (reads_in rel) ≤ times (numbers_of rel)
+  pub rel_fewer : (rel : Rel) → reads_with (reads_in rel) ≤ times (numbers_of rel)
   rel_fewer = by_inputs IsFewer relation_fewer
 
-  subs_fewer : (subs : List Sub) → reads_with (flat_map (λ (sub : Sub). reads_in sub.rel) subs) ≤ times (numbers_of_subs subs)
+  pub subs_fewer : (subs : List Sub) → reads_with (flat_map (λ (sub : Sub). reads_in sub.rel) subs) ≤ times (numbers_of_subs subs)
   subs_fewer [] = omega arith
   subs_fewer (sub ∷ subs) =
       let rest = flat_map (λ (one : Sub). reads_in one.rel) subs in
