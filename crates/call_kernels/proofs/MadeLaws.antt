@@ -1,8 +1,8 @@
 -- Values at places, and columns that were made of them.
-use Rattle.std.proofs.Common.{◌≡◌, ◌∙◌, ℕ, ◌<◌, List, [], ◌∷◌, length, map, get_or, Bool, Option, Some, None, Result, Ok, Err, IfOk, IfSome, refl, sym, ap, subst, arith}
+use Rattle.std.proofs.Common.{◌≡◌, ◌∙◌, ℕ, ◌<◌, List, [], ◌∷◌, length, map, get_or, replicate, Bool, Option, Some, None, Result, Ok, Err, IfOk, IfSome, refl, sym, ap, ap₂, subst, arith}
 use Rattle.std.specs.List.{range_with_len}
 use Rattle.std.specs.Simd.Lanes.{zip2}
-use Rattle.std.proofs.lemmas.List.{length-map, get_or-map}
+use Rattle.std.proofs.lemmas.List.{length-map, get_or-map, get_or-replicate}
 use Rattle.std.proofs.lemmas.Simd.{get_or-zip2, length-zip2, map-map}
 use Rattle.sub_types.specs.Nullable.{bool_value}
 use Rattle.sub_types.specs.declared.kind.Kind.{Kind}
@@ -22,6 +22,7 @@ use Rattle.kernels.specs.declared.selection.Stop.TheVariants.{Never}
 use Rattle.kernels.specs.Numbers.{test_of}
 use Rattle.kernels.specs.Until.{Until, until}
 use Rattle.kernels.proofs.AllLaws.{until-all}
+use Rattle.kernels.proofs.ConstantLaws.{until-below}
 use Rattle.kernels.proofs.UntilLaws.{until-same}
 use Rattle.kernels.specs.declared.op.ArithOp.{ArithOp}
 use Rattle.kernels.specs.declared.op.ArithOp.TheVariants.{Add, Subtract, Multiply, Divide, Modulus}
@@ -31,7 +32,7 @@ use Rattle.plan_denote.specs.Texts as texts
 use Rattle.call_kernels.specs.declared.texts.TextTest.{TextTest}
 use Rattle.call_kernels.specs.declared.texts.TextTest.TheVariants.{StartsWith, EndsWith, Contains, Like}
 use Rattle.call_kernels.specs.Functions.{compare_func, text_func, passes}
-use Rattle.call_kernels.specs.Made.{IsMade, at_places, applied_two}
+use Rattle.call_kernels.specs.Made.{IsMade, at_places, at_three, applied_two}
 
 -- what two lists give at all places
 pub until-zipped : (f : Value → Value → Computed) (a b out : List Value) (n : ℕ) → length a ≡ n → length b ≡ n → map Ok out ≡ zip2 f a b → until (at_places f a b) (range_with_len 0 n) ≡ record { values = out; stop = Never }
@@ -61,6 +62,30 @@ made_same f g n ty column stop same made =
       stop_is = made.stop_is ∙ ap (λ (one : Until Value). one.stop) both;
       ty_is = made.ty_is;
     }
+
+-- a function that gives the same at the first so many places
+pub made_below : (f g : ℕ → Computed) (n : ℕ) (ty : Ty) (column : Column) (stop : Stop) → ((i : ℕ) → i < n → f i ≡ g i) → IsMade f n ty column stop → IsMade g n ty column stop
+made_below f g n ty column stop same made =
+    let both = until-below f g n same in
+    record {
+      values = made.values ∙ ap (λ (one : Until Value). one.values) both;
+      stop_is = made.stop_is ∙ ap (λ (one : Until Value). one.stop) both;
+      ty_is = made.ty_is;
+    }
+
+pub made_below_if : {E : Type 0} (f g : ℕ → Computed) (n : ℕ) (ty : Ty) (r : Result (Option (Column × Stop)) E) → ((i : ℕ) → i < n → f i ≡ g i)
+    → IfOk r (λ found. IfSome found (λ out. IsMade f n ty out.0 out.1)) → IfOk r (λ found. IfSome found (λ out. IsMade g n ty out.0 out.1))
+made_below_if f g n ty (Ok (Some out)) same made = made_below f g n ty out.0 out.1 same made
+made_below_if f g n ty (Ok None) same made = tt
+made_below_if f g n ty (Err fault) same made = tt
+
+-- a function of values and two constants
+pub made_ranged : (g : Value → Value → Value → Computed) (a : List Value) (low high : Value) (n : ℕ) (ty : Ty) (found : Option (Column × Stop))
+    → IfSome found (λ out. IsMade (at_places (λ (x y : Value). g x low high) a a) n ty out.0 out.1) → IfSome found (λ out. IsMade (at_three g a (replicate n low) (replicate n high)) n ty out.0 out.1)
+made_ranged g a low high n ty (Some out) made =
+    made_below (at_places (λ (x y : Value). g x low high) a a) (at_three g a (replicate n low) (replicate n high)) n ty out.0 out.1
+    (λ i below. ap₂ (λ (y z : Value). g (get_or a i Null) y z) (sym (get_or-replicate n i low Null below)) (sym (get_or-replicate n i high Null below))) made
+made_ranged g a low high n ty None made = tt
 
 -- the same of what may not be made
 pub made_as : (f g : Value → Value → Computed) (a b : List Value) (n : ℕ) (ty : Ty) (found : Option (Column × Stop)) → ((x y : Value) → f x y ≡ g x y)

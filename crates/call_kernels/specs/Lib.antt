@@ -5,3 +5,5 @@ pub mod Functions
 pub mod Made
 pub mod Texts
 pub mod Nulls
+pub mod Searches
+pub mod Parts

@@ -25,6 +25,13 @@ applied_two func kind mode given a b = applied func kind mode given (a ∷ b ∷
 abbrev pub applied_one : Func → Kind → Overflow → List Kind → Value → Value → Computed
 applied_one func kind mode given a b = applied func kind mode given (a ∷ [])
 
+-- the same of three
+abbrev pub at_three : (Value → Value → Value → Computed) → List Value → List Value → List Value → ℕ → Computed
+at_three f a b c i = f (slice_index_or a i Null) (slice_index_or b i Null) (slice_index_or c i Null)
+
+abbrev pub applied_three : Func → Kind → Overflow → List Kind → Value → Value → Value → Computed
+applied_three func kind mode given a b c = applied func kind mode given (a ∷ b ∷ c ∷ [])
+
 -- the values and the stop are what this gives at the first so many places, and the column is of the type
 pub record IsMade (f : ℕ → Computed) (n : ℕ) (ty : Ty) (column : Column) (stop : Stop) : Type 0 where
   pub values : values_of column.values ≡ (until f (range_with_len 0 n)).values

@@ -1,9 +1,9 @@
-// Functions of one argument and of two.
-ghost use Rattle.std.specs.Prelude.{◌≡◌, ◌<◌, ℕ, List, length, IfOk, IfSome};
+// Functions of one argument, of two and of three.
+ghost use Rattle.std.specs.Prelude.{◌≡◌, ◌<◌, ℕ, List, length, replicate, IfOk, IfSome};
 ghost use Rattle.sub_types.specs.Value.{InKind};
 ghost use Rattle.plan_typed.specs.declared.expr.Overflow.{Overflow as mode_of};
 ghost use Rattle.sub_types.specs.declared.kind.Kind.{Kind as kind_of};
-ghost use Rattle.call_kernels.specs.Made.{IsMade, at_places, applied_one, applied_two};
+ghost use Rattle.call_kernels.specs.Made.{IsMade, at_places, at_three, applied_one, applied_two, applied_three};
 ghost use Rattle.call_kernels.specs.Operand.{values};
 ghost use Rattle.call_kernels.specs.Functions.{compare_func, text_func};
 ghost use Rattle.kernels.specs.Arith as arith_spec;
@@ -14,13 +14,15 @@ use crate::arithmetic::{arith_two, operation_of};
 use crate::comparisons::{compare_two, comparison_of};
 use crate::made::truths;
 use crate::nulls::{is_not_null_one, is_null_one};
+use crate::parts::substring_constants;
+use crate::ranges::between_constants;
 use crate::texts::{TextTest, test_two, text_test_of};
 use crate::truths::{not_one, xor_two};
 use batch::Column;
 use kernels::{ArithOp, CompareOp, Stop};
 use plan_typed::{Func, Overflow};
 use std::alloc::Global;
-use sub_types::{Kind, NoMemory, Ty};
+use sub_types::{Kind, NoMemory, Ty, Value};
 
 /// What a function makes of an argument at each of the first `n` places, if a kernel fits it. `ty` is the result's type.
 pub fn call_one(
@@ -195,4 +197,93 @@ fn by_xor(
 {
     let column = xor_two(alloc, a, b, n)?;
     Ok(truths(ty, column))
+}
+
+/// The same of three arguments.
+pub fn call_three(
+    alloc: Global,
+    func: Func,
+    mode: Overflow,
+    ty: Ty,
+    given: &[Kind],
+    a: Operand<'_>,
+    b: Operand<'_>,
+    c: Operand<'_>,
+    n: usize,
+) -> Result<Option<(Column, Stop)>, NoMemory>
+    requires a { length (values n a) ≡ n }
+    requires in_kind { (i : ℕ) → i < n → IfOk (at_three (applied_three func ty.kind mode given.now) (values n a) (values n b) (values n c) i) (InKind ty.kind) }
+    ensures { IfOk result (λ found. IfSome found (λ out. IsMade (at_three (applied_three func ty.kind mode given.now) (values n a.entry) (values n b.entry) (values n c.entry)) n ty out.0 out.1)) }
+{
+    match b {
+        Operand::Constant(b) => match c {
+            Operand::Constant(c) => call_with_two(alloc, func, mode, ty, given, a, b, c, n),
+            Operand::Column(_) => Ok(None),
+        },
+        Operand::Column(_) => Ok(None),
+    }
+}
+
+/// The same where the second and the third are constants.
+fn call_with_two(
+    alloc: Global,
+    func: Func,
+    mode: Overflow,
+    ty: Ty,
+    given: &[Kind],
+    a: Operand<'_>,
+    b: &Value,
+    c: &Value,
+    n: usize,
+) -> Result<Option<(Column, Stop)>, NoMemory>
+    requires a { length (values n a) ≡ n }
+    requires in_kind { (i : ℕ) → i < n → IfOk (at_three (applied_three func ty.kind mode given.now) (values n a) (replicate n b.now) (replicate n c.now) i) (InKind ty.kind) }
+    ensures { IfOk result (λ found. IfSome found (λ out. IsMade (at_three (applied_three func ty.kind mode given.now) (values n a.entry) (replicate n b.now) (replicate n c.now)) n ty out.0 out.1)) }
+{
+    match func {
+        Func::Between => by_range(alloc, func, mode, ty, given, a, b, c, n),
+        Func::Substring => by_part(alloc, func, mode, ty, given, a, b, c, n),
+        _ => Ok(None),
+    }
+}
+
+fn by_range(
+    alloc: Global,
+    func: Func,
+    mode: Overflow,
+    ty: Ty,
+    given: &[Kind],
+    a: Operand<'_>,
+    low: &Value,
+    high: &Value,
+    n: usize,
+) -> Result<Option<(Column, Stop)>, NoMemory>
+    requires of { func ≡ funcs.Between }
+    requires a { length (values n a) ≡ n }
+    ensures { IfOk result (λ found. IfSome found (λ out. IsMade (at_three (applied_three func ty.kind mode given.now) (values n a.entry) (replicate n low.now) (replicate n high.now)) n ty out.0 out.1)) }
+{
+    let column = between_constants(alloc, a, low, high, n)?;
+    Ok(truths(ty, column))
+}
+
+fn by_part(
+    alloc: Global,
+    func: Func,
+    mode: Overflow,
+    ty: Ty,
+    given: &[Kind],
+    a: Operand<'_>,
+    start: &Value,
+    count: &Value,
+    n: usize,
+) -> Result<Option<(Column, Stop)>, NoMemory>
+    requires of { func ≡ funcs.Substring }
+    requires a { length (values n a) ≡ n }
+    requires in_kind { (i : ℕ) → i < n → IfOk (at_three (applied_three func ty.kind mode given.now) (values n a) (replicate n start.now) (replicate n count.now) i) (InKind ty.kind) }
+    ensures { IfOk result (λ found. IfSome found (λ out. IsMade (at_three (applied_three func ty.kind mode given.now) (values n a.entry) (replicate n start.now) (replicate n count.now)) n ty out.0 out.1)) }
+{
+    let Some(column) = substring_constants(alloc, ty, a, start, count, n)? else {
+        return Ok(None);
+    };
+    Ok(Some((column, Stop::Never)))
 }

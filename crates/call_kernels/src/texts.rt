@@ -10,10 +10,10 @@ ghost use Rattle.call_kernels.specs.Operand.{values};
 ghost use Rattle.call_kernels.specs.Texts as spec;
 
 use crate::Operand;
+use crate::searches::contain_column;
 use batch::ColumnData;
 use col_fixed::{BoolBuilder, BoolCol};
 use col_text::TextCol;
-use memchr::memmem::Finder;
 use plan_typed::Func;
 use std::alloc::Global;
 use sub_types::{Kind, NoMemory, Value};
@@ -103,7 +103,7 @@ fn constant_text(value: &Value) -> Option<Option<&[u8]>>
     }
 }
 
-/// The test at each place. Where one pattern is sought in all texts, the search for it is made once.
+/// The test at each place. Where one pattern is sought in all texts of a column, one search goes through all of them.
 fn test_each(
     alloc: Global,
     test: TextTest,
@@ -154,47 +154,31 @@ fn contain_constant(
     ensures { IfOk result (λ column. map (λ truth. Ok (bool_value truth)) column ≡ zip2 (texts.tested texts.contains) (map bytes_value (spec.listed n a.now)) (map bytes_value (spec.listed n b.now))) }
 {
     match pattern {
-        Some(pattern) => contain_each(alloc, a, pattern, n),
+        Some(pattern) => contain_known(alloc, a, b, pattern, n),
         None => test_texts(alloc, TextTest::Contains, a, b, n),
     }
 }
 
-/// Whether each text contains the pattern.
-fn contain_each(
+/// The same of a pattern that isn't null.
+fn contain_known(
     alloc: Global,
-    all: &Texts<'_>,
+    a: &Texts<'_>,
+    b: &Texts<'_>,
     pattern: &[u8],
     n: usize,
 ) -> Result<BoolCol, NoMemory>
-    requires long { length (spec.listed n all.now) ≡ n }
-    requires texts { spec.AreTexts all.now }
+    requires a { length (spec.listed n a.now) ≡ n }
+    requires b { length (spec.listed n b.now) ≡ n }
+    requires a_utf8 { spec.AreTexts a.now }
+    requires b_utf8 { spec.AreTexts b.now }
     requires pattern { IsUtf8 pattern.now }
-    ensures { IfOk result (λ column. map (λ truth. Ok (bool_value truth)) column ≡ zip2 (texts.tested texts.contains) (map bytes_value (spec.listed n all.now)) (replicate n (worth.Bytes pattern.now))) }
+    requires constant { map bytes_value (spec.listed n b.now) ≡ replicate n (worth.Bytes pattern.now) }
+    ensures { IfOk result (λ column. map (λ truth. Ok (bool_value truth)) column ≡ zip2 (texts.tested texts.contains) (map bytes_value (spec.listed n a.now)) (map bytes_value (spec.listed n b.now))) }
 {
-    let finder = Finder::new(pattern);
-    let mut column = BoolBuilder::with_capacity(alloc, n)?;
-    for i in 0..n {
-        column.push(contained(&finder, text_at(all, i)))?;
+    match a {
+        Texts::Column(column) => contain_column(alloc, column, pattern),
+        Texts::Constant(_) => test_texts(alloc, TextTest::Contains, a, b, n),
     }
-    Ok(column.finish())
-}
-
-/// Whether a text that may be missing contains what is sought.
-fn contained(finder: &Finder<'_>, text: Option<&[u8]>) -> Option<bool>
-    requires text { IfSome (option_copied text) IsUtf8 }
-    requires pattern { IsUtf8 finder.now }
-    ensures { Ok (bool_value result) ≡ texts.tested texts.contains (bytes_value (option_copied text.entry)) (worth.Bytes finder.now) }
-{
-    match text {
-        Some(text) => Some(is_found(finder, text)),
-        None => None,
-    }
-}
-
-fn is_found(finder: &Finder<'_>, text: &[u8]) -> bool
-    ensures { result ≡ texts.contains text.now finder.now }
-{
-    finder.find(text).is_some()
 }
 
 /// The test at each place.
