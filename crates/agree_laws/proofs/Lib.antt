@@ -1,0 +1,4 @@
+pub mod OrderLaws
+pub mod TypeLaws
+pub mod AgreeLaws
+pub mod JointLaws
