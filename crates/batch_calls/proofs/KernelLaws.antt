@@ -1,6 +1,5 @@
 -- A function of whole columns, over the columns of which their first places are meant.
 use Rattle.std.proofs.Common.{◌≡◌, ◌∙◌, ℕ, ◌<◌, ◌≤◌, List, [], ◌∷◌, length, map, take, get_or, replicate, Option, Some, None, Result, Ok, Err, IfOk, IfSome, sym, ap, ap₂, subst, arith}
-use Rattle.std.specs.List.{range_with_len}
 use Rattle.std.proofs.lemmas.List.{get_or-take, length-take, length-take-le, length-replicate, take_all, take-replicate}
 use Rattle.sub_types.specs.Rows.{across}
 use Rattle.sub_types.specs.declared.kind.Kind.{Kind}
@@ -17,10 +16,10 @@ use Rattle.batch.specs.declared.column.Column.{Column}
 use Rattle.kernels.specs.declared.selection.Stop.{Stop}
 use Rattle.kernels.specs.Until.{Until}
 use Rattle.kernels.proofs.ConstantLaws.{until-below}
-use Rattle.call_kernels.proofs.MadeLaws.{made_same}
+use Rattle.call_kernels.proofs.MadeLaws.{made_same, made_below_if}
 use Rattle.call_kernels.specs.Operand.{values}
 use Rattle.call_kernels.specs.declared.operand.Operand.{Operand}
-use Rattle.call_kernels.specs.Made.{IsMade, at_places, applied_one, applied_two}
+use Rattle.call_kernels.specs.Made.{IsMade, at_places, at_three, applied_one, applied_two, applied_three}
 
 -- two lists with the same values at the first so many places
 module _ (f : Value → Value → Computed) (n : ℕ) (a b first second : List Value) (a_is : first ≡ take n a) (b_is : second ≡ take n b) where
@@ -113,3 +112,33 @@ whole_made None all n is = tt
 pub whole_lent : (r : Option Operand) (all : List Value) (n m : ℕ) → n ≤ length (take m all) → IfSome r (λ operand. (length all ≡ n) × (values n operand ≡ all)) → IfSome r (λ operand. values n operand ≡ take n (take m all))
 whole_lent (Some operand) all n m there is = is.1 ∙ whole_is_first all n m is.0 there
 whole_lent None all n m there is = tt
+
+-- ---- three arguments
+
+pub list_of_three : {X : Type 0} (xs : List X) (a b c : X) → length xs ≡ 3 → a ≡ get_or xs 0 a → b ≡ get_or xs 1 b → c ≡ get_or xs 2 c → xs ≡ a ∷ b ∷ c ∷ []
+list_of_three [] a b c long a_is b_is c_is = absurd (omega (arith, long))
+list_of_three (x ∷ []) a b c long a_is b_is c_is = absurd (omega (arith, long))
+list_of_three (x ∷ y ∷ []) a b c long a_is b_is c_is = absurd (omega (arith, long))
+list_of_three (x ∷ y ∷ z ∷ []) a b c long a_is b_is c_is = ap₂ (λ x rest. x ∷ rest) (sym a_is) (ap₂ (λ y z. y ∷ z ∷ []) (sym b_is) (sym c_is))
+list_of_three (x ∷ y ∷ z ∷ w ∷ xs) a b c long a_is b_is c_is = absurd (omega (arith, long))
+
+pub three_at : (func : Func) (kind : Kind) (mode : Overflow) (given : List Kind) (columns : List Found) (a b c : Found) → columns ≡ a ∷ b ∷ c ∷ [] → (i : ℕ)
+    → at_three (applied_three func kind mode given) (found_values a) (found_values b) (found_values c) i ≡ at_place func kind mode given columns i
+three_at func kind mode given columns a b c is i = ap (λ columns. applied func kind mode given (across Null (map found_values columns) i)) (sym is)
+
+-- three lists with the same values at the first so many places
+module _ (f : Value → Value → Value → Computed) (n : ℕ) (a b c first second third : List Value) (a_is : first ≡ take n a) (b_is : second ≡ take n b) (c_is : third ≡ take n c) where
+  front : (all some : List Value) → some ≡ take n all → (i : ℕ) → i < n → get_or some i Null ≡ get_or all i Null
+  front all some is i below = ap (λ xs. get_or xs i Null) is ∙ get_or-take n all i Null below
+
+  same_three : (i : ℕ) → i < n → at_three f first second third i ≡ at_three f a b c i
+  same_three i below =
+      ap₂ (λ (x y : Value). f x y (get_or third i Null)) (front a first a_is i below) (front b second b_is i below)
+      ∙ ap (λ (z : Value). f (get_or a i Null) (get_or b i Null) z) (front c third c_is i below)
+
+  pub kinds_first_three : (P : Value → Type 0) → ((i : ℕ) → i < n → IfOk (at_three f a b c i) P) → (i : ℕ) → i < n → IfOk (at_three f first second third i) P
+  kinds_first_three P holds i below = subst (λ found. IfOk found P) (sym (same_three i below)) (holds i below)
+
+  pub made_first_three : {E : Type 0} (ty : Ty) (r : Result (Option (Column × Stop)) E) → IfOk r (λ found. IfSome found (λ out. IsMade (at_three f first second third) n ty out.0 out.1))
+      → IfOk r (λ found. IfSome found (λ out. IsMade (at_three f a b c) n ty out.0 out.1))
+  made_first_three ty r made = made_below_if (at_three f first second third) (at_three f a b c) n ty r same_three made

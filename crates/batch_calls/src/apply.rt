@@ -11,12 +11,12 @@ ghost use Rattle.plan_denote.specs.Calls.{applied};
 ghost use Rattle.batch.specs.ColumnValues.{values_of};
 ghost use Rattle.batch_nodes.specs.Found.{found_values};
 ghost use Rattle.kernels.specs.Until.{until};
-ghost use Rattle.call_kernels.specs.Made.{IsMade, at_places, applied_one, applied_two};
+ghost use Rattle.call_kernels.specs.Made.{IsMade, at_places, at_three, applied_one, applied_two, applied_three};
 ghost use Rattle.call_kernels.specs.Operand.{values};
 
 use batch::{Column, ColumnBuilder};
 use batch_nodes::Found;
-use call_kernels::{Operand, call_one, call_two};
+use call_kernels::{Operand, call_one, call_three, call_two};
 use eval_values::{EvalError, apply};
 use kernels::Stop;
 use plan_typed::{Func, Overflow};
@@ -68,6 +68,9 @@ fn apply_kernel(
     if columns.len() == 2 {
         return kernel_for_two(alloc, func, mode, ty, given, columns, n);
     }
+    if columns.len() == 3 {
+        return kernel_for_three(alloc, func, mode, ty, given, columns, n);
+    }
     Ok(None)
 }
 
@@ -103,6 +106,33 @@ fn kernel_for_two(
     ensures { IfOk result (λ found. IfSome found (λ out. IsMade (λ i. applied func ty.kind mode given.now (across Null (map found_values columns.now) i)) n ty out.0 out.1)) }
 {
     kernel_of_two(alloc, func, mode, ty, given, &columns[0], &columns[1], n)
+}
+
+fn kernel_for_three(
+    alloc: Global,
+    func: Func,
+    mode: Overflow,
+    ty: Ty,
+    given: &[Kind],
+    columns: &[Found<'_>],
+    n: usize,
+) -> Result<Option<(Column, Stop)>, NoMemory>
+    requires count { length columns.now ≡ 3 }
+    requires long { All (λ column. n ≤ length (found_values column)) columns.now }
+    requires in_kind { (i : ℕ) → i < n → IfOk (applied func ty.kind mode given.now (across Null (map found_values columns.now) i)) (λ value. InKind ty.kind value) }
+    ensures { IfOk result (λ found. IfSome found (λ out. IsMade (λ i. applied func ty.kind mode given.now (across Null (map found_values columns.now) i)) n ty out.0 out.1)) }
+{
+    kernel_of_three(
+        alloc,
+        func,
+        mode,
+        ty,
+        given,
+        &columns[0],
+        &columns[1],
+        &columns[2],
+        n,
+    )
 }
 
 fn kernel_of_one(
@@ -143,6 +173,35 @@ fn kernel_of_two(
         return Ok(None);
     };
     call_two(alloc, func, mode, ty, given, left, right, n)
+}
+
+fn kernel_of_three(
+    alloc: Global,
+    func: Func,
+    mode: Overflow,
+    ty: Ty,
+    given: &[Kind],
+    a: &Found<'_>,
+    b: &Found<'_>,
+    c: &Found<'_>,
+    n: usize,
+) -> Result<Option<(Column, Stop)>, NoMemory>
+    requires a { n ≤ length (found_values a.now) }
+    requires b { n ≤ length (found_values b.now) }
+    requires c { n ≤ length (found_values c.now) }
+    requires in_kind { (i : ℕ) → i < n → IfOk (at_three (applied_three func ty.kind mode given.now) (found_values a.now) (found_values b.now) (found_values c.now) i) (λ value. InKind ty.kind value) }
+    ensures { IfOk result (λ found. IfSome found (λ out. IsMade (at_three (applied_three func ty.kind mode given.now) (found_values a.now) (found_values b.now) (found_values c.now)) n ty out.0 out.1)) }
+{
+    let Some(first) = operand_of(a, n) else {
+        return Ok(None);
+    };
+    let Some(second) = operand_of(b, n) else {
+        return Ok(None);
+    };
+    let Some(third) = operand_of(c, n) else {
+        return Ok(None);
+    };
+    call_three(alloc, func, mode, ty, given, first, second, third, n)
 }
 
 /// An argument's first `n` values as they are lent: the kernels take a column of more by rows.

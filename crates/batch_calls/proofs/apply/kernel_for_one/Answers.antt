@@ -1,7 +1,5 @@
 -- The only argument.
-use Rattle.std.proofs.Common.{◌≡◌, ◌<◌, ◌≤◌, ◌∷◌, [], ℕ, length, List, IfOk, sym, subst, arith}
-use Rattle.sub_types.specs.Value.{InKind}
-use Rattle.plan_denote.specs.Computed.{Computed}
+use Rattle.std.proofs.Common.{◌≤◌, length, sym, subst, arith}
 use Rattle.batch_nodes.specs.Found.{found_values}
 use Rattle.call_kernels.specs.Made.{applied_one, at_places}
 use Rattle.batch_calls.proofs.KernelLaws.{list_of_one, one_at, at_place, made_one}

@@ -1,5 +1,5 @@
 -- The two arguments.
-use Rattle.std.proofs.Common.{◌≡◌, ◌<◌, ◌≤◌, ◌∷◌, [], ℕ, length, List, IfOk, sym, subst, arith}
+use Rattle.std.proofs.Common.{◌≤◌, length, IfOk, sym, subst, arith}
 use Rattle.sub_types.specs.Value.{InKind}
 use Rattle.plan_denote.specs.Computed.{Computed}
 use Rattle.batch_nodes.specs.Found.{found_values}

@@ -1,0 +1,44 @@
+-- The three arguments.
+use Rattle.std.proofs.Common.{◌≤◌, length, IfOk, sym, subst, arith}
+use Rattle.sub_types.specs.Value.{InKind}
+use Rattle.plan_denote.specs.Computed.{Computed}
+use Rattle.batch_nodes.specs.Found.{found_values}
+use Rattle.call_kernels.specs.Made.{applied_three, at_three}
+use Rattle.batch_calls.proofs.KernelLaws.{list_of_three, three_at, at_place, made_at}
+use Rattle.batch_calls.proofs.apply.kernel_for_three.Goals as goal
+
+pub kernel_of_three-requires-clause-a : goal.kernel_of_three-requires-clause-a
+kernel_of_three-requires-clause-a c =
+    let one = c.index-columns-0.result in
+    subst (λ column. c.args.n ≤ length (found_values column)) (sym c.index-columns-0.is) (c.requires.long 0 one (omega (arith, c.requires.count)))
+
+pub kernel_of_three-requires-clause-b : goal.kernel_of_three-requires-clause-b
+kernel_of_three-requires-clause-b c =
+    let one = c.index-columns-1.result in
+    subst (λ column. c.args.n ≤ length (found_values column)) (sym c.index-columns-1.is) (c.requires.long 1 one (omega (arith, c.requires.count)))
+
+pub kernel_of_three-requires-clause-c : goal.kernel_of_three-requires-clause-c
+kernel_of_three-requires-clause-c c =
+    let one = c.index-columns-2.result in
+    subst (λ column. c.args.n ≤ length (found_values column)) (sym c.index-columns-2.is) (c.requires.long 2 one (omega (arith, c.requires.count)))
+
+pub kernel_of_three-requires-clause-in_kind : goal.kernel_of_three-requires-clause-in_kind
+kernel_of_three-requires-clause-in_kind c = λ i below.
+    let first = c.index-columns-0.result in
+    let second = c.index-columns-1.result in
+    let third = c.index-columns-2.result in
+    let kind = c.args.ty.kind in
+    let columns = c.args.columns.now in
+    let is = list_of_three columns first second third c.requires.count c.index-columns-0.is c.index-columns-1.is c.index-columns-2.is in
+    subst (λ (found : Computed). IfOk found (InKind kind)) (sym (three_at c.args.func kind c.args.mode c.args.given.now columns first second third is i)) (c.requires.in_kind i below)
+
+pub returns : goal.returns
+returns c =
+    let first = c.index-columns-0.result in
+    let second = c.index-columns-1.result in
+    let third = c.index-columns-2.result in
+    let kind = c.args.ty.kind in
+    let columns = c.args.columns.now in
+    let is = list_of_three columns first second third c.requires.count c.index-columns-0.is c.index-columns-1.is c.index-columns-2.is in
+    made_at (at_three (applied_three c.args.func kind c.args.mode c.args.given.now) (found_values first) (found_values second) (found_values third)) (at_place c.args.func kind c.args.mode c.args.given.now columns) c.args.n c.args.ty c.kernel_of_three.result
+    (three_at c.args.func kind c.args.mode c.args.given.now columns first second third is) c.kernel_of_three.ensures
