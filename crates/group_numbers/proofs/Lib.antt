@@ -2,3 +2,4 @@ pub mod SameLaws
 pub mod PlaceLaws
 pub mod DistinctLaws
 pub mod TwinLaws
+pub mod WholeLaws

@@ -17,7 +17,8 @@ use Rattle.plan_denote.specs.Distinct.{is_same_row}
 use Rattle.group_laws.proofs.SameLaws.{same_rows}
 use Rattle.row_keys.specs.KeyBytes.{IsHeld, value_bytes, bytes_of_key}
 use Rattle.group_keys.specs.Keys.{with_item, is_same_bytes}
-use Rattle.group_numbers.specs.Keys.{IsOnce, AreAt, IsTold, with_keys}
+use Rattle.group_numbers.specs.Keys.{IsOnce, AreAt, IsTold, IsKept, with_keys}
+use Rattle.group_numbers.specs.declared.keys.GroupKeys.{GroupKeys}
 use Rattle.group_numbers.proofs.SameLaws.{same_key}
 
 -- a key whose bytes are no other's
@@ -47,7 +48,7 @@ map_cond : {K A : Type 0} (code : K → A) (b : Bool) (xs ys : List K) → map c
 map_cond code true xs ys = refl
 map_cond code false xs ys = refl
 
-swapped : {A : Type 0} (b : Bool) (x y : A) → cond (not b) x y ≡ cond b y x
+pub swapped : {A : Type 0} (b : Bool) (x y : A) → cond (not b) x y ≡ cond b y x
 swapped true x y = refl
 swapped false x y = refl
 
@@ -69,7 +70,7 @@ rows_more rows grown key stored bytes is_new s ts t b n g =
     = ap (λ x. list_any (is_same_bytes x) stored) b ∙ ap (list_any (is_same_bytes (bytes_of_key key))) s ∙ any_bytes key rows t ts in
     g ∙ ap (λ u. cond u (rows ++ key ∷ []) rows) (n ∙ ap not any) ∙ swapped (list_any (is_same_row key) rows) (rows ++ key ∷ []) rows
 
-none_head : (a b : Bool) → a || b ≡ false → (a ≡ false) × (b ≡ false)
+pub none_head : (a b : Bool) → a || b ≡ false → (a ≡ false) × (b ≡ false)
 none_head true b e = absurd (cc)
 none_head false b e = (refl, e)
 
@@ -102,6 +103,20 @@ pub record AreKept (rows : List Row) (stored : List (List ℕ)) : Type 0 where
   pub once : IsOnce rows
   pub told : All IsTold rows
   pub bytes : stored ≡ map bytes_of_key rows
+
+pub apart : (b : Bool) → b ≡ false → b ≡ true → ⊥
+apart true e f = absurd (cc)
+apart false e f = absurd (cc)
+
+pub of_kept : (keys : GroupKeys) → IsKept keys → keys.by_number ≡ false → AreKept keys.rows (map (λ k. k.items) keys.set.keys)
+of_kept keys k e = record { once = k.once; told = (k.bytes e).told; bytes = (k.bytes e).bytes }
+
+pub to_kept : (keys : GroupKeys) → keys.by_number ≡ false → AreKept keys.rows (map (λ k. k.items) keys.set.keys) → IsKept keys
+to_kept keys e k = record {
+  once = k.once;
+  whole = λ t. absurd (apart keys.by_number e t);
+  bytes = λ f. record { told = k.told; bytes = k.bytes };
+}
 
 pub kept_more : (rows grown : List Row) (key : Row) (stored more : List (List ℕ)) (bytes : List ℕ) (is_new : Bool) → AreKept rows stored → IsTold key → bytes ≡ bytes_of_key key
     → is_new ≡ not (list_any (is_same_bytes bytes) stored) → grown ≡ cond is_new (rows ++ key ∷ []) rows → more ≡ with_item is_same_bytes stored bytes → AreKept grown more

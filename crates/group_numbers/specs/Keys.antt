@@ -1,12 +1,12 @@
 -- The keys of groups, each once, in the order in which they first appear, and the numbers of the groups of rows.
-use Rattle.std.specs.Prelude.{◌≡◌, ℕ, List, [], ◌∷◌, false, Some, map}
+use Rattle.std.specs.Prelude.{◌≡◌, ℕ, List, [], ◌∷◌, true, false, Some, map}
 use Rattle.std.specs.List.{All, list_any, range_with_len, slice_get}
 use Rattle.plan_denote.specs.Computed.{Row}
 use Rattle.plan_denote.specs.Distinct.{is_same_row}
 use Rattle.batch.specs.declared.batch.Batch.{Batch}
 use Rattle.row_keys.specs.Keys.{key_of}
 use Rattle.row_keys.specs.KeyBytes.{IsHeld, bytes_of_key}
-use Rattle.group_keys.specs.Keys.{with_item}
+use Rattle.group_keys.specs.Keys.{with_item, key_of_number}
 use Rattle.group_numbers.specs.declared.keys.GroupKeys.{GroupKeys}
 
 -- each key once
@@ -32,8 +32,13 @@ pub record IsTold (key : Row) : Type 0 where
   pub held : All IsHeld key
   pub alone : (other : Row) → All IsHeld other → bytes_of_key key ≡ bytes_of_key other → key ≡ other
 
--- the keys are there once, and beside them their bytes
+-- the bytes of the keys, none of which are another key's
+pub record AreByBytes (keys : List Row) (stored : List (List ℕ)) : Type 0 where
+  pub told : All IsTold keys
+  pub bytes : stored ≡ map bytes_of_key keys
+
+-- the keys are there once, and beside them the numbers that they are, or else their bytes
 pub record IsKept (keys : GroupKeys) : Type 0 where
   pub once : IsOnce keys.rows
-  pub told : All IsTold keys.rows
-  pub bytes : map (λ k. k.items) keys.set.keys ≡ map bytes_of_key keys.rows
+  pub whole : keys.by_number ≡ true → map key_of_number keys.whole.keys ≡ keys.rows
+  pub bytes : keys.by_number ≡ false → AreByBytes keys.rows (map (λ k. k.items) keys.set.keys)

@@ -1,5 +1,5 @@
 // The keys of groups.
-ghost use Rattle.std.specs.Prelude.{◌≡◌, ◌<◌, ◌∷◌, ◌++◌, [], Some, map, not, length, All, IfOk, OnOk, slice_get, slice_index_or, if◌then◌else◌};
+ghost use Rattle.std.specs.Prelude.{◌≡◌, ◌<◌, ◌∷◌, ◌++◌, [], Some, true, false, map, not, length, All, IfOk, OnOk, slice_get, slice_index_or, if◌then◌else◌};
 ghost use Rattle.std.specs.List.{list_any, range_with_len};
 ghost use Rattle.plan_denote.specs.Distinct.{is_same_row};
 ghost use Rattle.group_keys.specs.Keys.{with_item, is_same_bytes};
@@ -7,6 +7,7 @@ ghost use Rattle.row_keys.specs.Keys.{key_of};
 ghost use Rattle.row_keys.specs.KeyBytes.{bytes_of_key};
 ghost use Rattle.group_numbers.specs.Keys.{IsKept, AreAt, with_keys, keys_at};
 
+use crate::numbers::{batch_of_numbers, number_column};
 use crate::twins::twins_of;
 use batch::Batch;
 use group_keys::group_of_bytes;
@@ -17,18 +18,21 @@ use std::alloc::Global;
 use sub_types::{NoMemory, Value};
 
 /// The keys of groups by their numbers, from 0 in the order in which the keys first appear. Contracts see them by `rows`, of which
-/// `IsKept` says that each is there once.
+/// `IsKept` says that each is there once. As long as each key is one whole number or null it is found by that, and after that by its
+/// bytes.
 #[derive(Drop)]
 pub struct GroupKeys {
+    pub(crate) by_number: bool,
+    pub(crate) whole: IndexSet<Option<i64>>,
     pub(crate) set: IndexSet<Vec<u8>>,
     pub(crate) rows: Items<Items<Value>>,
 }
 
 /// Where a key stands.
 #[derive(Clone, Copy)]
-struct Place {
-    number: usize,
-    is_new: bool,
+pub(crate) struct Place {
+    pub(crate) number: usize,
+    pub(crate) is_new: bool,
 }
 
 fn place_of(alloc: Global, set: &mut IndexSet<Vec<u8>>, bytes: &[u8]) -> Result<Place, NoMemory>
@@ -93,6 +97,22 @@ impl GroupKeys {
         ensures rows { result.rows ≡ [] }
     {
         GroupKeys {
+            by_number: true,
+            whole: IndexSet::new(alloc),
+            set: IndexSet::new(alloc),
+            rows: Items::new(alloc),
+        }
+    }
+
+    // No keys, and those to come are found by their bytes.
+    fn by_bytes(alloc: Global) -> GroupKeys
+        ensures kept { IsKept result }
+        ensures mode { result.by_number ≡ false }
+        ensures rows { result.rows ≡ [] }
+    {
+        GroupKeys {
+            by_number: false,
+            whole: IndexSet::new(alloc),
             set: IndexSet::new(alloc),
             rows: Items::new(alloc),
         }
@@ -103,7 +123,7 @@ impl GroupKeys {
         ensures kept { IfOk result (λ keys. IsKept keys) }
         ensures rows { IfOk result (λ keys. keys.rows ≡ [] ∷ []) }
     {
-        let mut keys = GroupKeys::new(alloc);
+        let mut keys = GroupKeys::by_bytes(alloc);
         let place = place_of(alloc, &mut keys.set, &[])?;
         push_copy_if(alloc, &mut keys.rows, place.is_new, &Items::new(alloc))?;
         Ok(keys)
@@ -131,9 +151,11 @@ impl GroupKeys {
         row: u64,
     ) -> Result<usize, NoMemory>
         requires kept { IsKept self.old }
+        requires mode { self.old.by_number ≡ false }
         requires row { row < batch.now.rows }
         requires columns { All (λ column. column < length batch.now.columns.items) columns.now }
         ensures kept { OnOk result (IsKept self.new) }
+        ensures mode { OnOk result (self.new.by_number ≡ false) }
         ensures rows { OnOk result (self.new.rows ≡ with_item is_same_row self.old.rows (key_of columns.now batch.now row)) }
         ensures number { IfOk result (λ number. slice_get self.new.rows number ≡ Some (key_of columns.now batch.now row)) }
     {
@@ -154,11 +176,13 @@ impl GroupKeys {
         numbers: &[usize],
     ) -> Result<usize, NoMemory>
         requires kept { IsKept self.old }
+        requires mode { self.old.by_number ≡ false }
         requires row { row < batch.now.rows }
         requires columns { All (λ column. column < length batch.now.columns.items) columns.now }
         requires same { key_of columns.now batch.now twin ≡ key_of columns.now batch.now row }
         requires numbers { AreAt self.old.rows numbers.now (map (key_of columns.now batch.now) (range_with_len 0 row)) }
         ensures kept { OnOk result (IsKept self.new) }
+        ensures mode { OnOk result (self.new.by_number ≡ false) }
         ensures rows { OnOk result (self.new.rows ≡ with_item is_same_row self.old.rows (key_of columns.now batch.now row)) }
         ensures number { IfOk result (λ number. slice_get self.new.rows number ≡ Some (key_of columns.now batch.now row)) }
     {
@@ -181,6 +205,27 @@ impl GroupKeys {
         ensures rows { OnOk result (self.new.rows ≡ with_keys self.old.rows (keys_at columns.now batch.now)) }
         ensures numbers { IfOk result (λ numbers. AreAt self.new.rows numbers.items (keys_at columns.now batch.now)) }
     {
+        if let Some(column) = number_column(self.by_number, batch, columns) {
+            return self.numbers_by_number(alloc, column, batch.rows);
+        }
+        self.keep_by_bytes(alloc)?;
+        self.numbers_by_bytes(alloc, batch, columns)
+    }
+
+    fn numbers_by_bytes(
+        &mut self,
+        alloc: Global,
+        batch: &Batch,
+        columns: &[u32],
+    ) -> Result<Vec<usize>, NoMemory>
+        requires kept { IsKept self.old }
+        requires mode { self.old.by_number ≡ false }
+        requires columns { All (λ column. column < length batch.now.columns.items) columns.now }
+        ensures kept { OnOk result (IsKept self.new) }
+        ensures mode { OnOk result (self.new.by_number ≡ false) }
+        ensures rows { OnOk result (self.new.rows ≡ with_keys self.old.rows (keys_at columns.now batch.now)) }
+        ensures numbers { IfOk result (λ numbers. AreAt self.new.rows numbers.items (keys_at columns.now batch.now)) }
+    {
         let twins = twins_of(alloc, batch, columns)?;
         let mut numbers = Vec::with_capacity(alloc, batch.rows as usize)?;
         for row in 0..batch.rows {
@@ -191,6 +236,33 @@ impl GroupKeys {
         Ok(numbers)
     }
 
+    // The keys are found by their bytes from here on.
+    fn keep_by_bytes(&mut self, alloc: Global) -> Result<(), NoMemory>
+        requires kept { IsKept self.old }
+        ensures kept { OnOk result (IsKept self.new) }
+        ensures mode { OnOk result (self.new.by_number ≡ false) }
+        ensures rows { OnOk result (self.new.rows ≡ self.old.rows) }
+    {
+        if self.by_number {
+            *self = self.moved(alloc)?;
+        }
+        Ok(())
+    }
+
+    // The same keys, found by their bytes.
+    fn moved(&self, alloc: Global) -> Result<GroupKeys, NoMemory>
+        requires kept { IsKept self.now }
+        requires mode { self.now.by_number ≡ true }
+        ensures kept { IfOk result (λ keys. IsKept keys) }
+        ensures mode { IfOk result (λ keys. keys.by_number ≡ false) }
+        ensures rows { IfOk result (λ keys. keys.rows ≡ self.now.rows) }
+    {
+        let mut keys = GroupKeys::by_bytes(alloc);
+        let batch = batch_of_numbers(alloc, self.whole.as_slice())?;
+        keys.numbers_by_bytes(alloc, &batch, &[0])?;
+        Ok(keys)
+    }
+
     fn number_from(
         &mut self,
         alloc: Global,
@@ -198,9 +270,12 @@ impl GroupKeys {
         from: usize,
     ) -> Result<usize, NoMemory>
         requires kept { IsKept self.old }
+        requires mode { self.old.by_number ≡ false }
         requires later { IsKept later.now }
+        requires later_mode { later.now.by_number ≡ false }
         requires from { from < length later.now.rows }
         ensures kept { OnOk result (IsKept self.new) }
+        ensures mode { OnOk result (self.new.by_number ≡ false) }
         ensures rows { OnOk result (self.new.rows ≡ with_item is_same_row self.old.rows (slice_index_or later.now.rows from [])) }
         ensures number { IfOk result (λ number. slice_get self.new.rows number ≡ Some (slice_index_or later.now.rows from [])) }
     {
@@ -216,6 +291,7 @@ impl GroupKeys {
 
     fn bytes_at(&self, number: usize) -> &[u8]
         requires kept { IsKept self.now }
+        requires mode { self.now.by_number ≡ false }
         requires number { number < length self.now.rows }
         ensures { result.now ≡ bytes_of_key (slice_index_or self.now.rows number []) }
     {
@@ -229,6 +305,27 @@ impl GroupKeys {
     pub fn numbers_from(&mut self, alloc: Global, later: &GroupKeys) -> Result<Vec<usize>, NoMemory>
         requires kept { IsKept self.old }
         requires later { IsKept later.now }
+        ensures kept { OnOk result (IsKept self.new) }
+        ensures rows { OnOk result (self.new.rows ≡ with_keys self.old.rows later.now.rows) }
+        ensures numbers { IfOk result (λ numbers. AreAt self.new.rows numbers.items later.now.rows) }
+    {
+        if later.by_number {
+            let batch = batch_of_numbers(alloc, later.whole.as_slice())?;
+            return self.numbers_of(alloc, &batch, &[0]);
+        }
+        self.keep_by_bytes(alloc)?;
+        self.numbers_from_bytes(alloc, later)
+    }
+
+    fn numbers_from_bytes(
+        &mut self,
+        alloc: Global,
+        later: &GroupKeys,
+    ) -> Result<Vec<usize>, NoMemory>
+        requires kept { IsKept self.old }
+        requires mode { self.old.by_number ≡ false }
+        requires later { IsKept later.now }
+        requires later_mode { later.now.by_number ≡ false }
         ensures kept { OnOk result (IsKept self.new) }
         ensures rows { OnOk result (self.new.rows ≡ with_keys self.old.rows later.now.rows) }
         ensures numbers { IfOk result (λ numbers. AreAt self.new.rows numbers.items later.now.rows) }

@@ -1,8 +1,9 @@
-//! The numbers of the groups of a batch's rows, by the values of some of its columns. A group is found by the bytes of its key, and a
-//! key is kept only for a new group.
+//! The numbers of the groups of a batch's rows, by the values of some of its columns. A group is found by the number
+//! that its key is, or by the key's bytes, and a key is kept only for a new group.
 #![tactic(auto)]
 
 mod keys;
+mod numbers;
 mod twins;
 
 ghost use Rattle.std.specs.Prelude.{◌≡◌, ◌++◌, List};

@@ -6,4 +6,4 @@ abbrev bytes_of : Vec ℕ Global → List ℕ
 bytes_of key = key.items
 
 pub returns : goal.returns
-returns c = c.as_slice.ensures.value ∙ bytes_there bytes_of c.args.self.now.set.keys c.args.self.now.rows c.args.number c.in-Some.bytes.now c.requires.kept.bytes c.requires.number c.in-Some.ensures.key
+returns c = c.as_slice.ensures.value ∙ bytes_there bytes_of c.args.self.now.set.keys c.args.self.now.rows c.args.number c.in-Some.bytes.now (c.requires.kept.bytes c.requires.mode).bytes c.requires.number c.in-Some.ensures.key

@@ -4,7 +4,7 @@ use Rattle.plan_denote.specs.Distinct.{is_same_row}
 use Rattle.group_keys.specs.Keys.{with_item}
 use Rattle.group_numbers.specs.Keys.{AreAt, with_keys}
 use Rattle.group_numbers.proofs.PlaceLaws.{at_end, with_keys-end}
-use Rattle.group_numbers.proofs.keys.GroupKeys.numbers_from.Goals as goal
+use Rattle.group_numbers.proofs.keys.GroupKeys.numbers_from_bytes.Goals as goal
 
 pub loop-from-preserved : goal.loop-from-preserved
 loop-from-preserved c =
@@ -21,6 +21,7 @@ loop-from-preserved c =
     = at_end before after key c.loop-from.numbers.items keys c.in_ok-number.number c.loop-from.invariant.numbers c.in_ok-number.ensures.rows c.in_ok-number.ensures.number in
     record {
       kept = c.in_ok-number.ensures.kept;
+      mode = c.in_ok-number.ensures.mode;
       rows = rows ∙ ap (with_keys c.args.self.now.rows) (sym more);
       numbers = subst (λ l. AreAt after l (take (c.loop-from.from + 1) later)) (sym c.in_ok-push.ensures.items) (subst (AreAt after (c.loop-from.numbers.items ++ c.in_ok-number.number ∷ [])) (sym more) numbers);
     }
