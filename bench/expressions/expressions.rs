@@ -1,4 +1,9 @@
-// What the program beside it does, in plain Rust: `expressions WORK TIMES` makes the columns and does a work so many times.
+// What the program beside it does, in plain Rust: `expressions WORK TIMES` makes the columns and does a work so many times. The crate
+// memchr is that of the toolchain.
+#![feature(rustc_private)]
+extern crate memchr;
+
+use memchr::memmem::Finder;
 use std::hint::black_box;
 
 const ROWS: usize = 1_000_000;
@@ -130,27 +135,68 @@ fn sum(a: &Column) -> i128 {
     a.values.iter().map(|x| i128::from(*x)).sum()
 }
 
+// The texts one behind the other, and where each ends.
+struct Texts {
+    bytes: Vec<u8>,
+    ends: Vec<usize>,
+}
+
+// Ten characters of each text from the fifth on: their bytes, since all are ASCII.
+fn parts(texts: &Texts) -> Option<Texts> {
+    if !texts.bytes.is_ascii() {
+        return None;
+    }
+    let mut bytes = Vec::new();
+    let mut ends = Vec::with_capacity(texts.ends.len());
+    let mut start = 0;
+    for end in &texts.ends {
+        let text = &texts.bytes[start..*end];
+        let rest = &text[text.len().min(4)..];
+        bytes.extend_from_slice(&rest[..rest.len().min(10)]);
+        ends.push(bytes.len());
+        start = *end;
+    }
+    Some(Texts { bytes, ends })
+}
+
+fn of_texts(work: usize, times: usize) {
+    let texts: Vec<String> = (0..TEXTS).map(text).collect();
+    let mut column = Texts { bytes: Vec::new(), ends: Vec::new() };
+    for one in &texts {
+        column.bytes.extend_from_slice(one.as_bytes());
+        column.ends.push(column.bytes.len());
+    }
+    for _ in 0..times {
+        let pattern = black_box("que");
+        match work {
+            16 => drop(black_box(texts.iter().map(|one| one.contains(pattern)).collect::<Vec<bool>>())),
+            17 => {
+                let finder = Finder::new(pattern);
+                drop(black_box(texts.iter().map(|one| finder.find(one.as_bytes()).is_some()).collect::<Vec<bool>>()));
+            }
+            _ => drop(black_box(parts(black_box(&column)))),
+        }
+    }
+}
+
 fn main() {
     let words: Vec<usize> = std::env::args().skip(1).map(|word| word.parse().unwrap()).collect();
     let (work, times) = (words[0], words[1]);
-    if work == 14 {
-        let texts: Vec<String> = (0..TEXTS).map(text).collect();
-        for _ in 0..times {
-            let pattern = black_box("que");
-            black_box(texts.iter().map(|one| one.contains(pattern)).collect::<Vec<bool>>());
-        }
+    if work > 15 {
+        of_texts(work, times);
         return;
     }
     let columns = [numbers(255, 7919), numbers(255, 104729), numbers(251, 7919), numbers(191, 104729)];
     for _ in 0..times {
-        let (a, b) = (black_box(&columns[work / 7 * 2]), black_box(&columns[work / 7 * 2 + 1]));
-        match work % 7 {
+        let (a, b) = (black_box(&columns[work / 8 * 2]), black_box(&columns[work / 8 * 2 + 1]));
+        match work % 8 {
             0 => drop(black_box(tested(a, |x| x < 17))),
             1 => drop(black_box(less(a, b))),
             2 => drop(black_box(and(&tested(a, |x| x < 500), &tested(b, |x| x > -300)))),
             3 => drop(black_box(add(a, b))),
             4 => drop(black_box(multiply(a, black_box(17)))),
             5 => drop(black_box(filtered(a))),
+            6 => drop(black_box(tested(a, |x| (-300..=200).contains(&x)))),
             _ => {
                 black_box(sum(a));
             }

@@ -1,8 +1,8 @@
 #!/usr/bin/env python3
 """Measures expressions at all rows of a batch beside the same loops over slices in plain Rust: `python3 bench/expressions/measure.py`.
-It builds expressions.txt as bench/columns/measure.py does, and expressions.rs by rustc -O. Each work's time is the processor time
-of a process that does it 21 times, less that of one that does it once, by 20, so that other work on the machine counts less; the
-least of five, both programs in turn."""
+It builds expressions.txt as bench/columns/measure.py does, and expressions.rs by rustc -O with the memchr that comes with rustc.
+Each work's time is the processor time of a process that does it 21 times, less that of one that does it once, by 20, so that other
+work on the machine counts less; the least of nine, both programs in turn."""
 import importlib.util
 import os
 import subprocess
@@ -12,9 +12,10 @@ import tempfile
 HERE = os.path.dirname(os.path.abspath(__file__))
 COLUMNS = os.path.join(os.path.dirname(HERE), "columns", "measure.py")
 TIMES = 20
-RUNS = 5
+RUNS = 9
 WORKS = ("compare with a constant", "compare two columns", "`and` of two comparisons", "add, overflow a fault",
-         "multiply by a constant", "filter half", "sum")
+         "multiply by a constant", "filter half", "between two constants", "sum")
+OF_TEXTS = ("contains", "contains, beside memchr's Finder", "substring of ASCII")
 
 
 def spent(command, work, times):
@@ -45,8 +46,9 @@ def main():
         measure.linked(measure.workspace(scratch, "expressions"), folder)
         ours = measure.build(folder)
         theirs = [os.path.join(scratch, "plain")]
-        subprocess.run(["rustc", "-O", "-C", "target-cpu=x86-64-v2", "-o", theirs[0], os.path.join(HERE, "expressions.rs")], check=True)
-        works = [(k, WORKS[k % 7] + (", nulls" if k > 6 else "")) for k in range(14)] + [(14, "contains")]
+        subprocess.run(["rustc", "-O", "-C", "target-cpu=x86-64-v2", "--edition", "2021", "-o", theirs[0],
+                        os.path.join(HERE, "expressions.rs")], check=True, env={**os.environ, "RUSTC_BOOTSTRAP": "1"})
+        works = list(enumerate([*WORKS, *[f"{name}, nulls" for name in WORKS], *OF_TEXTS]))
         print("microseconds here, in plain Rust, ratio")
         for work, name in works:
             here, plain = [], []
