@@ -16,8 +16,8 @@ def main():
     measure.HERE = HERE
     measure.NAME = "joins_speed"
     measure.USES = ("anyhow sub_types plan_leaves plan_typed func_table well_typed plan_denote eval_values eval_row byteorder "
-                    "col_fixed col_text batch rel_specs plan_pipes key_hashes row_keys hash_chains join_marks join_pairs "
-                    "join_keys join_rest join_columns hash_join")
+                    "col_fixed col_text batch world arrow_meta arrow_decode arrow_read table_rows rel_specs plan_pipes key_hashes "
+                    "row_keys hash_chains join_marks join_pairs join_keys join_rest join_columns hash_join")
     measure.measure("joins")
 
 
