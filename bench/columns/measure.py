@@ -2,10 +2,12 @@
 """Measures the columns beside the same work in plain Rust: `python3 bench/columns/measure.py [numbers | texts]`.
 
 It copies the crates into a scratch folder, adds numbers.txt as a program over them, builds it with `rt try`,
-keeps the bitcode that this links, takes the interpreter's checks out of it, and builds it by clang -O3 for
-x86-64-v2, as `rt run` does with a proved program. numbers.rs is built by rustc -O for the same processor. Both then
-run five times, one after the other, and each work's best time and ratio are printed. Then texts.txt and texts.rs.
+keeps the bitcode that this links, takes the checks of `rt try` out of it, marks functions to be inlined as their
+sources hint, and builds it by clang -O3 for x86-64-v2, as `rt run` does with a proved program. numbers.rs is built by
+rustc -O for the same processor. Both then run five times, one after the other, and each work's best time and ratio are
+printed. Then texts.txt and texts.rs.
 """
+import glob
 import os
 import re
 import shutil
@@ -94,20 +96,54 @@ def caught(tried, into):
     return False
 
 
+def hints():
+    """The functions whose sources hint at inlining, by crate, file and name, with what that is in bitcode."""
+    words = {"#[inline(always)]": "alwaysinline", "#[inline(never)]": "noinline", "#[inline]": "inlinehint", "#[cold]": "cold"}
+    found = {}
+    for path in glob.glob(os.path.join(TOP, "crates", "*", "src", "**", "*.rt"), recursive=True):
+        crate = os.path.relpath(path, os.path.join(TOP, "crates")).split(os.sep)[0]
+        file = os.path.splitext(os.path.basename(path))[0]
+        pending = []
+        with open(path) as lines:
+            for line in map(str.strip, lines):
+                name = re.match(r"(?:pub(?:\(crate\))? )?fn (\w+)", line)
+                if line in words:
+                    pending.append(words[line])
+                elif name and pending:
+                    found[crate, file, name.group(1)] = " ".join(pending)
+                if line not in words and not line.startswith(("#[", "//")):
+                    pending = []
+    return found
+
+
+def marked(text):
+    """The code with these hints."""
+    found = hints()
+
+    def mark(definition):
+        parts = definition.group(2).split("::<")[0].split("::")
+        for (crate, file, name), words in found.items():
+            if parts[0] == crate and parts[-1] == name and file in parts:
+                return f"{definition.group(1)}{definition.group(2)}{definition.group(3)} {words} {{"
+        return definition.group(0)
+
+    return re.sub(r'(?m)^(define [^@]*@"?)([^"(]+)("?\(.*\) #\d+) \{', mark, text)
+
+
 def build(folder):
-    """The bitcode without the interpreter's checks, as a program."""
+    """The bitcode without the checks of `rt try`, as a program."""
     clang = [TOOLS + "/bin/clang", "--target=x86_64-unknown-linux-gnu", "-x", "ir"]
     code = os.path.join(folder, "module.ll")
     subprocess.run(clang + ["-S", "-emit-llvm", "-O0", "module.bc", "-o", code], cwd=folder, check=True,
                    stderr=subprocess.DEVNULL)
     with open(code) as file:
         text = file.read()
-    text = re.sub(r'.*(call void @"rattle-llvm-checks::|@llvm\.memset.*i8 -86).*\n', "", text)
+    text = re.sub(r'.*(call void @"rattle-(llvm-checks::|try::site-)|@llvm\.memset.*i8 -86).*\n', "", text)
     text = text.replace(" sanitize_address", "").replace('"probe-stack"="inline-asm" ', "")
     text = text.replace('"target-cpu"="x86-64"', '"target-cpu"="x86-64-v2"').replace('"frame-pointer"="all"', "")
     text = re.sub(r"(?m)^(attributes #\d+ = \{) *\}", r"\1 nounwind }", text)
     with open(code, "w") as file:
-        file.write(text)
+        file.write(marked(text))
     subprocess.run(clang + ["--no-default-config", "-march=x86-64-v2", "-O3", "-fPIE", "-ffunction-sections",
                             "-fdata-sections", "-c", code, "-o", "program.o"], cwd=folder, check=True,
                    stderr=subprocess.DEVNULL)
