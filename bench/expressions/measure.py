@@ -1,8 +1,9 @@
 #!/usr/bin/env python3
 """Measures expressions at all rows of a batch beside the same loops over slices in plain Rust: `python3 bench/expressions/measure.py`.
 It builds expressions.txt as bench/columns/measure.py does, and expressions.rs by rustc -O with the memchr that comes with rustc.
-Each work's time is the processor time of a process that does it 21 times, less that of one that does it once, by 20, so that other
-work on the machine counts less; the least of nine, both programs in turn."""
+Each work's time is the processor time of a process that does it 21 times (201 times, if it is one of texts), less that of one that
+does it once, by 20 (by 200), so that other work on the machine counts less; of each process the least of nine, both programs in
+turn."""
 import importlib.util
 import os
 import subprocess
@@ -12,6 +13,7 @@ import tempfile
 HERE = os.path.dirname(os.path.abspath(__file__))
 COLUMNS = os.path.join(os.path.dirname(HERE), "columns", "measure.py")
 TIMES = 20
+TIMES_OF_TEXTS = 200
 RUNS = 9
 WORKS = ("compare with a constant", "compare two columns", "`and` of two comparisons", "add, overflow a fault",
          "multiply by a constant", "filter half", "between two constants", "sum")
@@ -28,8 +30,19 @@ def spent(command, work, times):
     return (used.ru_utime + used.ru_stime) * 1e6
 
 
-def once(command, work):
-    return (spent(command, work, TIMES + 1) - spent(command, work, 1)) / TIMES
+class Least:
+    """The least time of a process that does a work many times, and of one that does it once."""
+
+    def __init__(self, command, work, times):
+        self.command, self.work, self.times = command, work, times
+        self.many = self.one = float("inf")
+
+    def again(self):
+        self.many = min(self.many, spent(self.command, self.work, self.times + 1))
+        self.one = min(self.one, spent(self.command, self.work, 1))
+
+    def once(self):
+        return (self.many - self.one) / self.times
 
 
 def main():
@@ -51,11 +64,12 @@ def main():
         works = list(enumerate([*WORKS, *[f"{name}, nulls" for name in WORKS], *OF_TEXTS]))
         print("microseconds here, in plain Rust, ratio")
         for work, name in works:
-            here, plain = [], []
+            times = TIMES_OF_TEXTS if name in OF_TEXTS else TIMES
+            here, plain = Least(ours, work, times), Least(theirs, work, times)
             for _ in range(RUNS):
-                here.append(once(ours, work))
-                plain.append(once(theirs, work))
-            print(f"{name}: {min(here):.0f} {min(plain):.0f} {min(here) / min(plain):.2f}", flush=True)
+                here.again()
+                plain.again()
+            print(f"{name}: {here.once():.0f} {plain.once():.0f} {here.once() / plain.once():.2f}", flush=True)
 
 
 if __name__ == "__main__":
