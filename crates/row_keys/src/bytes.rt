@@ -27,10 +27,28 @@ pub fn key_bytes(
     ensures equal { (key : List Value) → All IsHeld key → IfOk result (λ bytes. bytes ≡ bytes_of_key key → key_of columns.now batch.now row ≡ key) }
 {
     let mut bytes = Vec::new(alloc);
-    for column in columns {
-        push_value(&mut bytes, &column_at(batch, *column).values, row as usize)?;
-    }
+    write_key(&mut bytes, batch, columns, row)?;
     Ok(ByteList::from_vec(bytes))
+}
+
+/// Writes those bytes into a buffer, in place of what it held.
+pub fn write_key(
+    bytes: &mut Vec<u8>,
+    batch: &Batch,
+    columns: &[u32],
+    row: u64,
+) -> Result<(), NoMemory>
+    requires row { row < batch.now.rows }
+    requires columns { All (λ column. column < length batch.now.columns.items) columns.now }
+    ensures bytes { OnOk result (bytes.new.items ≡ bytes_of_key (key_of columns.now batch.now row)) }
+    ensures held { OnOk result (All IsHeld (key_of columns.now batch.now row)) }
+    ensures equal { (key : List Value) → All IsHeld key → OnOk result (bytes.new.items ≡ bytes_of_key key → key_of columns.now batch.now row ≡ key) }
+{
+    bytes.clear();
+    for column in columns {
+        push_value(bytes, &column_at(batch, *column).values, row as usize)?;
+    }
+    Ok(())
 }
 
 // Writes the value of a column at a row.

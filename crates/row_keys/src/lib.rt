@@ -9,7 +9,7 @@ mod matching;
 mod order;
 mod values;
 
-pub use bytes::key_bytes;
+pub use bytes::{key_bytes, write_key};
 pub use equality::{same_keys, same_keys_at};
 pub use key_hashes::{hash_key, hash_keys, number_keys, whole_keys};
 pub use matching::matching_keys;

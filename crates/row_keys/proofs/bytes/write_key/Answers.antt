@@ -5,7 +5,7 @@ use Rattle.row_keys.specs.Keys.{key_of}
 use Rattle.row_keys.specs.KeyBytes.{value_bytes, bytes_of_key, IsHeld}
 use Rattle.row_keys.proofs.KeyLaws.{same_keys}
 use Rattle.row_keys.proofs.WrittenLaws.{written_more}
-use Rattle.row_keys.proofs.bytes.key_bytes.Goals as goal
+use Rattle.row_keys.proofs.bytes.write_key.Goals as goal
 
 pub loop-column-preserved : goal.loop-column-preserved
 loop-column-preserved c =
@@ -17,6 +17,6 @@ pub returns-clause-equal : goal.returns-clause-equal
 returns-clause-equal c =
     let done : length c.args.columns.now ≤ c.loop-column.column-index = omega arith in
     let all = take_all c.loop-column.column-index c.args.columns.now done in
-    let written = c.from_vec.ensures ∙ c.loop-column.invariant.0 ∙ ap (λ columns. bytes_of_key (key_of columns c.args.batch.now c.args.row)) all in
+    let written = c.loop-column.invariant.0 ∙ ap (λ columns. bytes_of_key (key_of columns c.args.batch.now c.args.row)) all in
     let held = subst (λ columns. All IsHeld (key_of columns c.args.batch.now c.args.row)) all c.loop-column.invariant.1 in
     λ key held_key e. same_keys (key_of c.args.columns.now c.args.batch.now c.args.row) key held held_key (sym written ∙ e)
