@@ -13,7 +13,7 @@ use batch::Batch;
 use group_keys::group_of_bytes;
 use indexmap::IndexSet;
 use plan_leaves::{CopyIn, Items};
-use row_keys::key_bytes;
+use row_keys::write_key;
 use std::alloc::Global;
 use sub_types::{NoMemory, Value};
 
@@ -149,6 +149,7 @@ impl GroupKeys {
         batch: &Batch,
         columns: &[u32],
         row: u64,
+        buffer: &mut Vec<u8>,
     ) -> Result<usize, NoMemory>
         requires kept { IsKept self.old }
         requires mode { self.old.by_number ≡ false }
@@ -159,8 +160,8 @@ impl GroupKeys {
         ensures rows { OnOk result (self.new.rows ≡ with_item is_same_row self.old.rows (key_of columns.now batch.now row)) }
         ensures number { IfOk result (λ number. slice_get self.new.rows number ≡ Some (key_of columns.now batch.now row)) }
     {
-        let bytes = key_bytes(alloc, batch, columns, row)?;
-        let place = place_of(alloc, &mut self.set, bytes.bytes())?;
+        write_key(buffer, batch, columns, row)?;
+        let place = place_of(alloc, &mut self.set, buffer.as_slice())?;
         push_if(alloc, &mut self.rows, place.is_new, batch, columns, row)?;
         Ok(place.number)
     }
@@ -174,6 +175,7 @@ impl GroupKeys {
         row: u64,
         twin: u64,
         numbers: &[usize],
+        buffer: &mut Vec<u8>,
     ) -> Result<usize, NoMemory>
         requires kept { IsKept self.old }
         requires mode { self.old.by_number ≡ false }
@@ -189,7 +191,7 @@ impl GroupKeys {
         if twin < row {
             return Ok(numbers[twin as usize]);
         }
-        self.number_of(alloc, batch, columns, row)
+        self.number_of(alloc, batch, columns, row, buffer)
     }
 
     /// The numbers of the groups of a batch's rows, by the values of these columns. A key that is new makes a group.
@@ -228,9 +230,19 @@ impl GroupKeys {
     {
         let twins = twins_of(alloc, batch, columns)?;
         let mut numbers = Vec::with_capacity(alloc, batch.rows as usize)?;
+        let mut buffer = Vec::new(alloc);
         for row in 0..batch.rows {
             let twin = twins[row as usize];
-            let number = self.number_by_twin(alloc, batch, columns, row, twin, numbers.as_slice())?;
+            let before = numbers.as_slice();
+            let number = self.number_by_twin(
+                alloc,
+                batch,
+                columns,
+                row,
+                twin,
+                before,
+                &mut buffer,
+            )?;
             numbers.push(number)?;
         }
         Ok(numbers)
