@@ -59,6 +59,10 @@ impl Keys for Counted {
         self.rows.numbers(alloc, numbering)
     }
 
+    fn number(&self, numbering: Numbering, row: usize) -> u64 {
+        self.rows.number(numbering, row)
+    }
+
     fn same(&self, row: usize, others: &Self, other: usize) -> bool {
         self.comparisons
             .set(self.comparisons.get().saturating_add(1));
