@@ -55,6 +55,10 @@ impl Keys for Counted {
         self.rows.is_plain()
     }
 
+    fn is_quick(&self) -> bool {
+        self.rows.is_quick()
+    }
+
     fn numbers(&self, alloc: Global, numbering: Numbering) -> Result<Vec<u64>, NoMemory> {
         self.rows.numbers(alloc, numbering)
     }
