@@ -27,7 +27,7 @@ pub fn bare_table<'a>(plan: &Holed, tables: &'a [Table]) -> Option<&'a Table>
 }
 
 /// Whether a plan is one bare read.
-fn is_bare(plan: &Holed) -> bool
+pub(crate) fn is_bare(plan: &Holed) -> bool
     ensures { IsTrue result ↔ IsBare plan.now }
 {
     plan.subs.is_empty() && is_bare_read(&plan.typed.rel)

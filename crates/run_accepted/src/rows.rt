@@ -1,22 +1,21 @@
 // The rows of an accepted plan, of which nothing is written.
-ghost use Rattle.std.specs.Prelude.{◌≡◌, ◌≢◌, ◌-◌, ◌≤◌, ℕ, List, Some, Ok, Err, IfOk, length, map};
+ghost use Rattle.std.specs.Prelude.{◌≡◌, ◌≢◌, ◌-◌, ◌≤◌, ℕ, List, Some, None, Ok, Err, IfOk, length, map};
 ghost use Rattle.std.specs.List.{AllZip, flat_map};
 ghost use Rattle.batch.specs.BatchRows.{rows_of};
 ghost use Rattle.world.specs.Counts.{Rose};
 ghost use Rattle.world.specs.Files.{Files};
 ghost use Rattle.plan_reads.specs.Reads.{reads_of as spec_reads_of};
 ghost use Rattle.plan_tables.specs.Open.{open_seen, AllTold, AllReady, count_open};
-ghost use Rattle.plan_tables.specs.Read.{IsTableOf};
 ghost use Rattle.plan_tables.specs.Tables as spec;
-ghost use Rattle.plan_tables.specs.Tables.{Opened, tested_tables};
-ghost use Rattle.row_engine.specs.Tables.{tables_seen};
+ghost use Rattle.plan_tables.specs.Tables.{Opened, tables_of};
+ghost use Rattle.plan_denote.specs.Subqueries.{denote_plan};
+ghost use Rattle.table_engine.specs.Inputs.{gathered_stream};
 ghost use Rattle.run_accepted.specs.Done.{IsAccepted, input_of};
 ghost use Rattle.crew_tables.specs.Receipts.{IsReceiptOf};
 ghost use Rattle.run_accepted.specs.Fits.{FitsRows};
 
 use batch::Batch;
-use crew_tables::{Crew, CrewTables, read_by_crew};
-use plan_batches::run_plan;
+use gather_plans::{Crew, Gathered, gather_plan};
 use plan_leaves::Items;
 use plan_reads::reads_of;
 use plan_tables::{OpenRead, open_reads};
@@ -90,39 +89,29 @@ fn rows_of_opened<H: Threads + Wait + Sync, F: Folder, G: Gate>(
     ensures read_fault { result ≡ Err Status.ReadFault → Rose (F.read_faults folder.old) (F.read_faults folder.new) }
     ensures lent { F.lent folder.new ≡ F.lent folder.old - count_open opened.items }
 {
-    match read_by_crew(crew, alloc, folder, opened) {
-        Ok(all) => {
-            let CrewTables { tables, receipts } = all;
-            rows_of_tables(alloc, plan, &tables, receipts)
-        }
+    match gather_plan(crew, alloc, folder, plan, opened) {
+        Ok(all) => rows_of_gathered(alloc, plan, all),
         Err(FolderError::Failed) => Err(Status::ReadFault),
         Err(FolderError::NoMemory) => Err(Status::NoMemory),
     }
 }
 
-// The same once the tables are read.
-fn rows_of_tables(
-    alloc: Global,
-    plan: &Holed,
-    tables: &[Table],
-    receipts: Vec<PipeReceipt>,
-) -> Result<Ran, Status>
-    requires accepted { IsAccepted plan.now }
-    requires tables { AllZip IsTableOf (spec_reads_of plan.now) tables.now }
-    ensures rows { (workers : ℕ) (opened : List Opened) → map (λ one. one.read) opened ≡ spec_reads_of plan.now
-        → ((relation : ℕ) → tables_seen tables.now relation ≡ tested_tables opened relation)
-        → AllZip (IsReceiptOf workers) (map input_of opened) receipts.items
+// The same once the rows are worked out.
+fn rows_of_gathered(alloc: Global, plan: &Holed, all: Gathered) -> Result<Ran, Status>
+    ensures rows { (workers : ℕ) (opened : List Opened) → gathered_stream all ≡ denote_plan (tables_of opened) plan.now
+        → (all.end ≡ None → AllZip (IsReceiptOf workers) (map input_of opened) all.receipts.items)
         → FitsRows (Ok opened) plan.now workers result }
     ensures reads_nothing { result ≢ Err Status.ReadFault }
 {
-    let all = match run_plan(alloc, plan, tables) {
-        Ok(all) => all,
-        Err(NoMemory) => return Err(Status::NoMemory),
-    };
-    if let Some(fault) = all.end {
+    let Gathered {
+        batches,
+        end,
+        receipts,
+    } = all;
+    if let Some(fault) = end {
         return Err(Status::DataFault { fault });
     }
-    match rows_of_batches(alloc, all.batches) {
+    match rows_of_batches(alloc, batches) {
         Ok(rows) => Ok(Ran { rows, receipts }),
         Err(NoMemory) => Err(Status::NoMemory),
     }

@@ -1,0 +1,5 @@
+mod ErrorLaws
+mod OpenLaws
+mod ReadyLaws
+mod ReceiptLaws
+mod SoFarLaws

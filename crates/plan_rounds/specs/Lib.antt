@@ -1,0 +1,4 @@
+pub mod Inputs
+pub mod Ready
+pub mod Receipts
+pub mod Known

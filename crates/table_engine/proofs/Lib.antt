@@ -1,0 +1,7 @@
+mod EndLaws
+mod FeedLaws
+mod GatherLaws
+mod PipeLaws
+mod RunLaws
+mod FitLaws
+mod ErrorLaws

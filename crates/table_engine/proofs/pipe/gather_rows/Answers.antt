@@ -1,0 +1,22 @@
+use Rattle.std.proofs.Common.{◌∙◌, sym, ap}
+use Rattle.pipe_types.specs.Exact.{gathered_types}
+use Rattle.pipe_ends.specs.Given.{IsInput}
+use Rattle.plan_pipes.specs.RowMeaning.{gathered}
+use Rattle.set_rels.specs.Inputs.{stream_of}
+use Rattle.pipe_feeds.proofs.KeptLaws.{typed_more, streams_more}
+use Rattle.table_engine.proofs.GatherLaws.{input_as}
+use Rattle.table_engine.proofs.pipe.gather_rows.Goals as goal
+
+pub returns-clause-typed : goal.returns-clause-typed
+returns-clause-typed c =
+    let old = c.args.stores.now in
+    let stored = c.in_ok-stored.stored.items in
+    let pieces = c.in_ok-pieces.pieces.items in
+    let breaker = c.args.breaker.now in
+    let input : IsInput stored pieces =
+    input_as stored (gathered_types breaker c.deref-2.result.now) pieces (c.in_ok-stored.ensures ∙ ap (gathered_types breaker) (c.deref.ensures.value ∙ sym c.deref-2.ensures.value)) c.in_ok-pieces.ensures.typed c.in_ok-pieces.ensures.fit in
+    typed_more old.types.items c.push.new.self.types.items old.streams.items c.push.new.self.streams.items stored pieces c.in_ok-push.ensures.types c.in_ok-push.ensures.streams c.requires.typed input
+
+pub returns-clause-rows : goal.returns-clause-rows
+returns-clause-rows c = λ streams are.
+    streams_more streams c.args.stores.now.streams.items c.push.new.self.streams.items (gathered c.args.breaker.now (stream_of c.args.given.pieces.items)) c.in_ok-pieces.pieces.items c.in_ok-push.ensures.streams are c.in_ok-pieces.ensures.stream
