@@ -1,6 +1,0 @@
-mod KeptLaws
-mod PieceLaws
-mod FeedLaws
-mod RunLaws
-mod EndLaws
-mod PipeLaws

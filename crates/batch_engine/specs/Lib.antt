@@ -1,4 +1,0 @@
-pub mod Inputs
-pub mod Kept
-pub mod Stands
-pub mod Ready

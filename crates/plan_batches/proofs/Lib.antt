@@ -1,3 +1,0 @@
-pub mod TypeLaws
-pub mod ReadyLaws
-pub mod LeftLaws
