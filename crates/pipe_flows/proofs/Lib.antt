@@ -1,2 +1,3 @@
+mod BodyLaws
 mod FlowLaws
 mod ReceiptLaws

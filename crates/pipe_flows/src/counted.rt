@@ -12,6 +12,7 @@ ghost use Rattle.set_rels.specs.Inputs.{stream_of};
 ghost use Rattle.pipe_ends.specs.Given.{IsInput};
 ghost use Rattle.open_blocks.specs.Files.{AreOpenFor, faults_of, files_at, files_seen};
 ghost use Rattle.open_blocks.specs.Taken.{Adds};
+ghost use Rattle.read_rounds.specs.Bodies.{HaveRead, reads_made};
 ghost use Rattle.read_rounds.specs.Told.{TellsRows, blocks_at};
 ghost use Rattle.pipe_flows.specs.Receipts.{IsReceiptOf};
 
@@ -75,6 +76,7 @@ pub(crate) fn read_counted<H: Threads + Wait + Sync, R: Reader + Send, G: Gate>(
     ensures rows { IfOk result (λ given. (input : Stream Row) × TellsRows (files_at relation (map (files_seen R.bytes) files.old.items)) input
         × (stream_of given.pieces.items ≡ through row_steps (tables_seen pipe.now.tables) pipe.now.steps input)) }
     ensures receipts { OnOk result (Adds (IsReceiptOf crew.now.workers) ((relation, blocks_at (files_at relation (map (files_seen R.bytes) files.old.items))) ∷ []) receipts.old.items receipts.new.items) }
+    ensures reads { OnOk result (HaveRead relation (map (files_seen R.bytes) files.old.items) (reads_made R.reads files.old.items) (reads_made R.reads files.new.items)) }
     ensures seen { map (files_seen R.bytes) files.new.items ≡ map (files_seen R.bytes) files.old.items }
     ensures cause { HasCause FolderError.Failed (faults_of R.faults files.old.items) (faults_of R.faults files.new.items) result }
 {

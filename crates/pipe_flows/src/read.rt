@@ -15,7 +15,9 @@ ghost use Rattle.fed_laws.specs.Fed.{IsReadAt};
 ghost use Rattle.read_laws.specs.Typed.{IsTypedRead};
 ghost use Rattle.open_blocks.specs.Files.{AreOpenFor, faults_of, files_at, files_seen};
 ghost use Rattle.open_blocks.specs.Taken.{Adds};
+ghost use Rattle.read_rounds.specs.Bodies.{HaveRead, reads_made};
 ghost use Rattle.read_rounds.specs.Told.{TellsRows, blocks_at};
+ghost use Rattle.pipe_flows.specs.Bodies.{HaveReadAt};
 ghost use Rattle.pipe_flows.specs.Inputs.{columns_of, reads_seen, told_by, IsOpenFor};
 ghost use Rattle.pipe_flows.specs.Receipts.{IsReceiptAt, IsReceiptOf};
 
@@ -57,6 +59,7 @@ pub fn flow_read<H: Threads + Wait + Sync, R: Reader + Send, G: Gate>(
     ensures rows { IfOk result (λ given. (input : Stream Row) × IsReadAt (told_by (map (files_seen R.bytes) files.old.items)) (reads_seen reads.now) relation input
         × (stream_of given.pieces.items ≡ through row_steps (tables_seen tables.now) steps.now input)) }
     ensures receipts { OnOk result (Adds (IsReceiptAt crew.now.workers (map (files_seen R.bytes) files.old.items) (reads_seen reads.now)) (relation ∷ []) receipts.old.items receipts.new.items) }
+    ensures reads { OnOk result (HaveReadAt (reads_seen reads.now) (map (files_seen R.bytes) files.old.items) relation (reads_made R.reads files.old.items) (reads_made R.reads files.new.items)) }
     ensures seen { map (files_seen R.bytes) files.new.items ≡ map (files_seen R.bytes) files.old.items }
     ensures cause { HasCause FolderError.Failed (faults_of R.faults files.old.items) (faults_of R.faults files.new.items) result }
 {
@@ -104,6 +107,7 @@ fn flow_named<H: Threads + Wait + Sync, R: Reader + Send, G: Gate>(
     ensures rows { IfOk result (λ given. (input : Stream Row) × TellsRows (files_at relation (map (files_seen R.bytes) files.old.items)) input
         × (stream_of given.pieces.items ≡ through row_steps (tables_seen tables.now) steps.now input)) }
     ensures receipts { OnOk result (Adds (IsReceiptOf crew.now.workers) ((relation, blocks_at (files_at relation (map (files_seen R.bytes) files.old.items))) ∷ []) receipts.old.items receipts.new.items) }
+    ensures reads { OnOk result (HaveRead relation (map (files_seen R.bytes) files.old.items) (reads_made R.reads files.old.items) (reads_made R.reads files.new.items)) }
     ensures seen { map (files_seen R.bytes) files.new.items ≡ map (files_seen R.bytes) files.old.items }
     ensures cause { HasCause FolderError.Failed (faults_of R.faults files.old.items) (faults_of R.faults files.new.items) result }
 {

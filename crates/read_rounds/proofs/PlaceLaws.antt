@@ -1,18 +1,21 @@
 -- The files of a read relation at their place.
-use Rattle.std.proofs.Common.{◌≡◌, ◌∙◌, ◌<◌, ◌≤◌, ℕ, zero, suc, ◌+◌, List, [], ◌∷◌, Bool, true, false, Option, Some, length, map, get_or, set, sum_by, ◌==◌, sym, ap, subst, arith, if◌then◌else◌}
-use Rattle.std.specs.Prelude.{Result, position}
+use Rattle.std.proofs.Common.{◌≡◌, ◌∙◌, ◌<◌, ◌≤◌, ℕ, zero, suc, ◌+◌, List, [], ◌∷◌, Bool, true, false, Option, Some, length, map, get_or, set, sum_by, ◌==◌, ◌≢◌, true≢false, refl, sym, ap, subst, arith, if◌then◌else◌}
+use Rattle.std.specs.Prelude.{Result, Ok, Err, OnOk, position}
 use Rattle.std.specs.List.{All}
-use Rattle.std.proofs.lemmas.Bool.{eqb-true}
+use Rattle.std.proofs.lemmas.Bool.{eq-eqb, eqb-true}
 use Rattle.std.proofs.lemmas.List.Elements.{All-head, All-tail}
 use Rattle.std.proofs.lemmas.List.Quantifiers.{position-Some}
 use Rattle.std.proofs.lemmas.List.Sums.{sum_by-set}
 use Rattle.world.specs.Counts.{HasCause, Rose}
+use Rattle.world.specs.Reads.{Reads}
 use Rattle.world.specs.declared.error.FolderError.{FolderError}
 use Rattle.world.specs.declared.error.FolderError.TheVariants.{Failed}
 use Rattle.sub_types.specs.declared.kind.Ty.{Ty}
+use Rattle.block_source.specs.Bodies.{AreReadOnce}
 use Rattle.block_source.proofs.Rising.{rose_in}
 use Rattle.open_blocks.specs.declared.files.ReadFiles.{ReadFiles}
 use Rattle.open_blocks.specs.Files.{FilesSeen, AreOpenFor, faults_of, files_at, files_seen}
+use Rattle.read_rounds.specs.Bodies.{HaveRead, reads_made}
 
 module _ {R : Type 0} (bytes : R → Option (List ℕ)) (relation : ℕ) where
   abbrev is_of : ReadFiles R → Bool
@@ -49,6 +52,27 @@ module _ {R : Type 0} (bytes : R → Option (List ℕ)) (relation : ℕ) where
         found = first_at files at one some.0 some.1 some.2 ∙ ap (λ (x : ReadFiles R). Some (files_seen bytes x)) (sym there);
         opened = subst (λ (x : ReadFiles R). AreOpenFor types (files_seen bytes x)) (sym there) (open_at types files at one some.0 own all);
       }
+
+  -- the bodies of the files at the first place of the relation were read once, and so those of the relation
+  first_read : (reads : R → Option Reads) (files : List (ReadFiles R)) (at : ℕ) (d new : ReadFiles R) → at < length files → is_of (get_or files at d) ≡ true → ((k : ℕ) → k < at → is_of (get_or files k d) ≡ false)
+      → AreReadOnce (get_or files at d).blocks.files.items (map reads (get_or files at d).readers.items) (map reads new.readers.items)
+      → HaveRead relation (map (files_seen bytes) files) (reads_made reads files) (reads_made reads (set files at new))
+  first_read reads [] at d new below is before once = absurd (omega (arith, below))
+  first_read reads (one ∷ files) zero d new below is before once = (λ own. (once, refl), λ other. absurd (other (eqb-true one.relation relation is)))
+  first_read reads (one ∷ files) (suc at) d new below is before once = (
+    λ own. absurd (true≢false (sym (eq-eqb one.relation relation own) ∙ before 0 (omega arith))),
+    λ other. (refl, first_read reads files at d new (omega (arith, below)) is (λ k less. before (suc k) (omega (arith, less))) once),
+  )
+
+  pub have_read : (reads : R → Option Reads) (files : List (ReadFiles R)) (at : ℕ) (one new : ReadFiles R) → position is_of files ≡ Some at → one ≡ get_or files at one
+      → AreReadOnce one.blocks.files.items (map reads one.readers.items) (map reads new.readers.items) → HaveRead relation (map (files_seen bytes) files) (reads_made reads files) (reads_made reads (set files at new))
+  have_read reads files at one new is there once =
+      let some = position-Some is_of files at one is in
+      first_read reads files at one new some.0 some.1 some.2 (subst (λ (x : ReadFiles R). AreReadOnce x.blocks.files.items (map reads x.readers.items) (map reads new.readers.items)) there once)
+
+pub when_ok : {T E : Type 0} (result : Result T E) (P Q : Type 0) → (P → Q) → OnOk result P → OnOk result Q
+when_ok (Ok given) P Q so is = so is
+when_ok (Err error) P Q so is = is
 
 -- the count of failed reads rises as that of the files at a place
 summed : (a b s t : ℕ) → t + a ≡ s + b → a ≤ b → s ≤ t

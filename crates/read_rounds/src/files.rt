@@ -1,5 +1,5 @@
 // The blocks of a read relation's files, through steps.
-ghost use Rattle.std.specs.Prelude.{◌≡◌, ◌==◌, IfOk, List, Some, length, map, position, sum_by, true, vec_len};
+ghost use Rattle.std.specs.Prelude.{◌≡◌, ◌==◌, IfOk, OnOk, List, Some, length, map, position, sum_by, true, vec_len};
 ghost use Rattle.std.specs.List.{All};
 ghost use Rattle.sub_types.specs.Stream.{Stream, glue};
 ghost use Rattle.world.specs.Counts.{HasCause};
@@ -11,10 +11,12 @@ ghost use Rattle.plan_pipes.specs.RowMeaning.{row_steps};
 ghost use Rattle.pipe_types.specs.Exact.{exact_steps};
 ghost use Rattle.pipe_steps.specs.Behind.{IsStored};
 ghost use Rattle.pipe_steps.specs.Tables.{joins_of, tables_seen};
+ghost use Rattle.block_source.specs.Bodies.{AreReadOnce};
 ghost use Rattle.block_source.specs.Seen.{AreHeads};
 ghost use Rattle.table_rows.specs.Blocks.{HaveKinds};
 ghost use Rattle.block_work.specs.Reads.{StartsWithRead};
 ghost use Rattle.open_blocks.specs.Files.{AreOpenFor, faults_of, files_at, files_seen};
+ghost use Rattle.read_rounds.specs.Bodies.{HaveRead, reads_made};
 ghost use Rattle.read_rounds.specs.Told.{TellsRows, blocks_at, blocks_in, parts_seen};
 
 use crate::round::FeedRound;
@@ -53,6 +55,10 @@ pub fn read_named<H: Threads + Wait + Sync, R: Reader + Send, G: Gate>(
     ensures rows { IfOk result (λ r. (given : Stream Row) × TellsRows (files_at relation (map (files_seen R.bytes) files.old.items)) given
         × (glue (map stream_of_piece r.pieces.items) ≡ through row_steps (tables_seen pipe.now.tables) pipe.now.steps given)) }
     ensures stored { IfOk result (λ r. All (IsStored (through exact_steps (joins_of pipe.now.tables) pipe.now.steps pipe.now.types)) r.pieces.items) }
+
+    // The body of each good block of the files was read once.
+    ensures reads { OnOk result (HaveRead relation (map (files_seen R.bytes) files.old.items) (reads_made R.reads files.old.items) (reads_made R.reads files.new.items)) }
+
     ensures seen { map (files_seen R.bytes) files.new.items ≡ map (files_seen R.bytes) files.old.items }
     ensures cause { HasCause FolderError.Failed (faults_of R.faults files.old.items) (faults_of R.faults files.new.items) result }
 {
@@ -101,6 +107,7 @@ fn read_at<H: Threads + Wait + Sync, R: Reader + Send, G: Gate>(
     ensures rows { IfOk result (λ r. (given : Stream Row) × TellsRows (files_at relation (map (files_seen R.bytes) files.old.items)) given
         × (glue (map stream_of_piece r.pieces.items) ≡ through row_steps (tables_seen pipe.now.tables) pipe.now.steps given)) }
     ensures stored { IfOk result (λ r. All (IsStored (through exact_steps (joins_of pipe.now.tables) pipe.now.steps pipe.now.types)) r.pieces.items) }
+    ensures reads { OnOk result (HaveRead relation (map (files_seen R.bytes) files.old.items) (reads_made R.reads files.old.items) (reads_made R.reads files.new.items)) }
     ensures seen { map (files_seen R.bytes) files.new.items ≡ map (files_seen R.bytes) files.old.items }
     ensures cause { HasCause FolderError.Failed (faults_of R.faults files.old.items) (faults_of R.faults files.new.items) result }
 {
@@ -122,6 +129,7 @@ fn read_one<H: Threads + Wait + Sync, R: Reader + Send, G: Gate>(
     ensures rows { IfOk result (λ r. (given : Stream Row) × TellsRows (Some (files_seen R.bytes one.old)) given
         × (glue (map stream_of_piece r.pieces.items) ≡ through row_steps (tables_seen pipe.now.tables) pipe.now.steps given)) }
     ensures stored { IfOk result (λ r. All (IsStored (through exact_steps (joins_of pipe.now.tables) pipe.now.steps pipe.now.types)) r.pieces.items) }
+    ensures reads { OnOk result (AreReadOnce one.old.blocks.files.items (map R.reads one.old.readers.items) (map R.reads one.new.readers.items)) }
     ensures seen { files_seen R.bytes one.new ≡ files_seen R.bytes one.old }
     ensures cause { HasCause FolderError.Failed (sum_by R.faults one.old.readers.items) (sum_by R.faults one.new.readers.items) result }
 {
@@ -157,6 +165,7 @@ fn read_parts<H: Threads + Wait + Sync, R: Reader + Send, G: Gate>(
     ensures rows { IfOk result (λ r. (given : Stream Row) × TellsRows (Some (parts_seen relation blocks.now.files.items numbers.now (map R.bytes readers.old.items))) given
         × (glue (map stream_of_piece r.pieces.items) ≡ through row_steps (tables_seen pipe.now.tables) pipe.now.steps given)) }
     ensures stored { IfOk result (λ r. All (IsStored (through exact_steps (joins_of pipe.now.tables) pipe.now.steps pipe.now.types)) r.pieces.items) }
+    ensures reads { OnOk result (AreReadOnce blocks.now.files.items (map R.reads readers.old.items) (map R.reads readers.new.items)) }
     ensures bytes { map R.bytes readers.new.items ≡ map R.bytes readers.old.items }
     ensures cause { HasCause FolderError.Failed (sum_by R.faults readers.old.items) (sum_by R.faults readers.new.items) result }
 {
@@ -185,6 +194,7 @@ fn read_blocks<H: Threads + Wait + Sync, R: Reader + Send, G: Gate>(
     ensures rows { IfOk result (λ r. (given : Stream Row) × TellsRows (Some (parts_seen steps.now.relation steps.now.table.now.files.items steps.now.numbers.now (map R.bytes readers.old.items))) given
         × (glue (map stream_of_piece r.pieces.items) ≡ through row_steps (tables_seen steps.now.pipe.now.tables) steps.now.pipe.now.steps given)) }
     ensures stored { IfOk result (λ r. All (IsStored (through exact_steps (joins_of steps.now.pipe.now.tables) steps.now.pipe.now.steps steps.now.pipe.now.types)) r.pieces.items) }
+    ensures reads { OnOk result (AreReadOnce steps.now.table.now.files.items (map R.reads readers.old.items) (map R.reads readers.new.items)) }
     ensures bytes { map R.bytes readers.new.items ≡ map R.bytes readers.old.items }
     ensures cause { HasCause FolderError.Failed (sum_by R.faults readers.old.items) (sum_by R.faults readers.new.items) result }
 {

@@ -34,3 +34,6 @@ returns-clause-receipts g c =
     let round = c.in_ok-round in
     let count = blocks_at (files_at c.args.relation (map (files_seen g.R.Reader.bytes) c.args.files.now.items)) in
     receipt_as c.args.crew.now.workers (vec_len round.round.receipts) c.args.relation round.round.batches count c.args.receipts.now.items c.add_receipt.new.receipts.items round.ensures.workers round.ensures.batches c.in_ok-add_receipt.ensures.added
+
+pub returns-clause-reads : goal.returns-clause-reads
+returns-clause-reads g c = c.in_ok-round.ensures.reads

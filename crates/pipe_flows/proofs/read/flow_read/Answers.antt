@@ -1,4 +1,4 @@
-use Rattle.std.proofs.Common.{◌∙◌, ◌+◌, ◌/◌, List, [], Option, length, map, sym, ap, subst}
+use Rattle.std.proofs.Common.{◌∙◌, ◌+◌, ◌/◌, List, [], Option, length, map, refl, sym, ap, subst}
 use Rattle.std.specs.List.{AllByRecursion}
 use Rattle.plan_typed.specs.declared.expr.Expr.{Expr}
 use Rattle.plan_typed.specs.declared.rel.Source.TheVariants as sources
@@ -15,6 +15,8 @@ use Rattle.open_blocks.specs.Files.{files_at, files_seen}
 use Rattle.read_rounds.specs.Told.{blocks_at}
 use Rattle.pipe_flows.specs.Inputs.{reads_seen}
 use Rattle.pipe_flows.specs.Receipts.{batches_from}
+use Rattle.read_rounds.specs.Bodies.{reads_made}
+use Rattle.pipe_flows.proofs.BodyLaws.{found_reads}
 use Rattle.pipe_flows.proofs.FlowLaws.{found_read, open_at, read_here}
 use Rattle.pipe_flows.proofs.ReceiptLaws.{read_in, receipt_at}
 use Rattle.pipe_flows.proofs.read.flow_read.Goals as goal
@@ -73,3 +75,15 @@ returns-in_ok-of_plan-in-Rows-clause-receipts g c =
     receipt_at c.args.crew.now.workers files reads n (batches_from [] n (sources.Rows c.as_slice.result.now))
     (read_in files n reads (read_seen c.in-Some.read) c.in-Some.ensures ∙ ap (batches_from files n) c.in-Rows.is ∙ ap (λ (rows : List (List Expr)). (length rows + 1023) / 1024) (sym c.as_slice.ensures)) c.args.receipts.now.items
     c.flow_virtual.new.receipts.items c.in_ok-of_plan-in-Rows.ensures.receipts
+
+pub returns-in_ok-of_files-in-Named-clause-reads : goal.returns-in_ok-of_files-in-Named-clause-reads
+returns-in_ok-of_files-in-Named-clause-reads g c =
+    let files = map (files_seen g.R.Reader.bytes) c.args.files.now.items in
+    found_reads files c.args.relation (reads_seen c.args.reads.now) (read_seen c.in-Some.read) _ (reads_made g.R.Reader.reads c.args.files.now.items) (reads_made g.R.Reader.reads c.flow_named.new.files.items) c.in-Some.ensures c.in-Named.is
+    c.in_ok-of_files-in-Named.ensures.reads
+
+pub returns-in_ok-of_plan-in-Rows-clause-reads : goal.returns-in_ok-of_plan-in-Rows-clause-reads
+returns-in_ok-of_plan-in-Rows-clause-reads g c =
+    let files = map (files_seen g.R.Reader.bytes) c.args.files.now.items in
+    let made = reads_made g.R.Reader.reads c.args.files.now.items in
+    found_reads files c.args.relation (reads_seen c.args.reads.now) (read_seen c.in-Some.read) (sources.Rows c.in-Rows.rows) made made c.in-Some.ensures c.in-Rows.is refl

@@ -1,4 +1,4 @@
-use Rattle.std.proofs.Common.{◌≡◌, ◌∙◌, ℕ, Option, map, sym, ap, subst}
+use Rattle.std.proofs.Common.{◌≡◌, ◌∙◌, ℕ, Option, map, set, sym, ap, subst}
 use Rattle.std.specs.Prelude.{IfOk}
 use Rattle.sub_types.specs.Stream.{Stream, glue}
 use Rattle.batch.specs.BatchRows.{stream_of_piece}
@@ -10,7 +10,9 @@ use Rattle.crew_round.proofs.Giving.{set_map}
 use Rattle.open_blocks.specs.Files.{FilesSeen, files_seen}
 use Rattle.read_rounds.specs.Told.{TellsRows, blocks_at}
 use Rattle.read_rounds.specs.declared.round.FeedRound.{FeedRound}
-use Rattle.read_rounds.proofs.PlaceLaws.{cause_at, is_place}
+use Rattle.block_source.specs.Bodies.{AreReadOnce}
+use Rattle.read_rounds.specs.Bodies.{HaveRead, reads_made}
+use Rattle.read_rounds.proofs.PlaceLaws.{cause_at, have_read, is_place, when_ok}
 use Rattle.read_rounds.proofs.files.read_at.Goals as goal
 
 pub read_one-requires-clause-open : goal.read_one-requires-clause-open
@@ -44,3 +46,14 @@ returns-clause-cause g c =
     let one = c.index_mut.result.now in
     let place = is_place g.R.Reader.bytes c.args.relation c.args.pipe.now.types files c.args.at one c.requires.at c.index_mut.ensures.value c.requires.open in
     cause_at g.R.Reader.faults files c.args.at one c.read_one.new.one c.read_one.result place.within c.index_mut.ensures.value c.read_one.ensures.cause
+
+pub returns-clause-reads : goal.returns-clause-reads
+returns-clause-reads g c =
+    let files = c.args.files.now.items in
+    let reads = g.R.Reader.reads in
+    let one = c.index_mut.result.now in
+    let new = c.read_one.new.one in
+    let at = c.args.at in
+    let relation = c.args.relation in
+    when_ok c.read_one.result (AreReadOnce one.blocks.files.items (map reads one.readers.items) (map reads new.readers.items)) (HaveRead relation (map (files_seen g.R.Reader.bytes) files) (reads_made reads files) (reads_made reads (set files at new)))
+    (have_read g.R.Reader.bytes relation reads files at one new c.requires.at c.index_mut.ensures.value) c.read_one.ensures.reads
