@@ -1,3 +1,4 @@
+mod BodyLaws
 mod EndLaws
 mod FeedLaws
 mod GatherLaws

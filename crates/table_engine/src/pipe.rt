@@ -19,6 +19,8 @@ ghost use Rattle.read_laws.specs.Typed.{IsTypedRead};
 ghost use Rattle.open_blocks.specs.Files.{faults_of, files_seen};
 ghost use Rattle.open_blocks.specs.Taken.{Adds};
 ghost use Rattle.pipe_feeds.specs.Kept.{AreTypedAs, AreStreams, IsLeft};
+ghost use Rattle.read_rounds.specs.Bodies.{reads_made};
+ghost use Rattle.pipe_flows.specs.Bodies.{HaveReadInTurn};
 ghost use Rattle.pipe_flows.specs.Inputs.{columns_of, reads_seen, IsOpenFor};
 ghost use Rattle.pipe_flows.specs.Receipts.{IsReceiptAt};
 ghost use Rattle.table_engine.specs.Stands as spec;
@@ -58,6 +60,7 @@ pub(crate) fn run_pipe<H: Threads + Wait + Sync, R: Reader + Send, G: Gate>(
     ensures typed { OnOk result (AreTypedAs stores.new.types.items stores.new.streams.items) }
     ensures rows { OnOk result (spec.HasRunPipe (map (files_seen R.bytes) files.old.items) (reads_seen reads.now) pipe stores.old stores.new) }
     ensures receipts { OnOk result (Adds (IsReceiptAt crew.now.workers (map (files_seen R.bytes) files.old.items) (reads_seen reads.now)) (fed_by pipe.feed) receipts.old.items receipts.new.items) }
+    ensures reads { OnOk result (HaveReadInTurn (reads_seen reads.now) (map (files_seen R.bytes) files.old.items) (fed_by pipe.feed) (reads_made R.reads files.old.items) (reads_made R.reads files.new.items)) }
     ensures seen { map (files_seen R.bytes) files.new.items ≡ map (files_seen R.bytes) files.old.items }
     ensures cause { HasCause FolderError.Failed (faults_of R.faults files.old.items) (faults_of R.faults files.new.items) result }
 {
@@ -92,6 +95,7 @@ fn flow_pipe<H: Threads + Wait + Sync, R: Reader + Send, G: Gate>(
     ensures types { OnOk result (stores.new.types.items ≡ stores.old.types.items) }
     ensures tables { OnOk result (stores.new.tables.items ≡ stores.old.tables.items) }
     ensures receipts { OnOk result (Adds (IsReceiptAt crew.now.workers (map (files_seen R.bytes) files.old.items) (reads_seen reads.now)) (fed_by pipe.now.feed) receipts.old.items receipts.new.items) }
+    ensures reads { OnOk result (HaveReadInTurn (reads_seen reads.now) (map (files_seen R.bytes) files.old.items) (fed_by pipe.now.feed) (reads_made R.reads files.old.items) (reads_made R.reads files.new.items)) }
     ensures seen { map (files_seen R.bytes) files.new.items ≡ map (files_seen R.bytes) files.old.items }
     ensures cause { HasCause FolderError.Failed (faults_of R.faults files.old.items) (faults_of R.faults files.new.items) result }
 {
@@ -125,6 +129,7 @@ fn flow_feed<H: Threads + Wait + Sync, R: Reader + Send, G: Gate>(
     ensures types { OnOk result (stores.new.types.items ≡ stores.old.types.items) }
     ensures tables { OnOk result (stores.new.tables.items ≡ stores.old.tables.items) }
     ensures receipts { OnOk result (Adds (IsReceiptAt crew.now.workers (map (files_seen R.bytes) files.old.items) (reads_seen reads.now)) (fed_by feed.now) receipts.old.items receipts.new.items) }
+    ensures reads { OnOk result (HaveReadInTurn (reads_seen reads.now) (map (files_seen R.bytes) files.old.items) (fed_by feed.now) (reads_made R.reads files.old.items) (reads_made R.reads files.new.items)) }
     ensures seen { map (files_seen R.bytes) files.new.items ≡ map (files_seen R.bytes) files.old.items }
     ensures cause { HasCause FolderError.Failed (faults_of R.faults files.old.items) (faults_of R.faults files.new.items) result }
 {

@@ -17,8 +17,11 @@ ghost use Rattle.read_laws.specs.Typed.{IsTypedRead};
 ghost use Rattle.open_blocks.specs.Files.{faults_of, files_seen};
 ghost use Rattle.open_blocks.specs.Taken.{Adds};
 ghost use Rattle.pipe_feeds.specs.Kept.{AreTypedAs};
+ghost use Rattle.read_rounds.specs.Bodies.{reads_made};
+ghost use Rattle.pipe_flows.specs.Bodies.{HaveReadInTurn};
 ghost use Rattle.pipe_flows.specs.Inputs.{columns_of, reads_seen, IsOpenFor};
 ghost use Rattle.pipe_flows.specs.Receipts.{IsReceiptAt};
+ghost use Rattle.table_engine.specs.Bodies.{AreBodiesRead};
 ghost use Rattle.table_engine.specs.Inputs.{gathered_stream, AreTablesOf};
 ghost use Rattle.table_engine.specs.Stands as spec;
 
@@ -73,6 +76,9 @@ pub fn run_tree<H: Threads + Wait + Sync, R: Reader + Send, G: Gate>(
     // Each batch of a read relation was claimed once, and finished by one worker or by the caller.
     ensures receipts { IfOk result (λ all. AllZip (IsReceiptAt workers (map (files_seen R.bytes) files.old.items) (read_rels rel)) (reads_of rel) all.receipts.items) }
 
+    // Over all workers the body of each good block of the files is read once.
+    ensures reads { OnOk result (AreBodiesRead (read_rels rel) (reads_of rel) (map (files_seen R.bytes) files.old.items) (reads_made R.reads files.old.items) (reads_made R.reads files.new.items)) }
+
     ensures seen { map (files_seen R.bytes) files.new.items ≡ map (files_seen R.bytes) files.old.items }
     ensures cause { HasCause FolderError.Failed (faults_of R.faults files.old.items) (faults_of R.faults files.new.items) result }
 {
@@ -98,6 +104,7 @@ fn run_typed<H: Threads + Wait + Sync, R: Reader + Send, G: Gate>(
     ensures types { IfOk result (λ all. All (λ batch. types_of batch ≡ types.columns_of typed.now.rel) all.batches.items) }
     ensures fit { IfOk result (λ all. AllByRecursion (Fits (types.columns_of typed.now.rel)) (gathered_stream all).rows) }
     ensures receipts { IfOk result (λ all. AllZip (IsReceiptAt crew.now.workers (map (files_seen R.bytes) files.old.items) (read_rels typed.now.rel)) (reads_of typed.now.rel) all.receipts.items) }
+    ensures reads { OnOk result (AreBodiesRead (read_rels typed.now.rel) (reads_of typed.now.rel) (map (files_seen R.bytes) files.old.items) (reads_made R.reads files.old.items) (reads_made R.reads files.new.items)) }
     ensures seen { map (files_seen R.bytes) files.new.items ≡ map (files_seen R.bytes) files.old.items }
     ensures cause { HasCause FolderError.Failed (faults_of R.faults files.old.items) (faults_of R.faults files.new.items) result }
 {
@@ -134,6 +141,7 @@ fn run_pipes<H: Threads + Wait + Sync, R: Reader + Send, G: Gate>(
     ensures typed { IfOk result (λ stores. AreTypedAs stores.types.items stores.streams.items) }
     ensures rows { IfOk result (spec.HaveRun (map (files_seen R.bytes) files.old.items) (reads_seen reads.now) pipes.items) }
     ensures receipts { OnOk result (Adds (IsReceiptAt crew.now.workers (map (files_seen R.bytes) files.old.items) (reads_seen reads.now)) (fed_in pipes.items) receipts.old.items receipts.new.items) }
+    ensures reads { OnOk result (HaveReadInTurn (reads_seen reads.now) (map (files_seen R.bytes) files.old.items) (fed_in pipes.items) (reads_made R.reads files.old.items) (reads_made R.reads files.new.items)) }
     ensures seen { map (files_seen R.bytes) files.new.items ≡ map (files_seen R.bytes) files.old.items }
     ensures cause { HasCause FolderError.Failed (faults_of R.faults files.old.items) (faults_of R.faults files.new.items) result }
 {

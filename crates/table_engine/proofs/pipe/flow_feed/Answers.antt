@@ -1,4 +1,4 @@
-use Rattle.std.proofs.Common.{◌≡◌, ◌∙◌, ℕ, List, [], map, slice_index_or, sym, ap, subst}
+use Rattle.std.proofs.Common.{◌≡◌, ◌∙◌, ℕ, List, [], map, slice_index_or, refl, sym, ap, subst}
 use Rattle.sub_types.specs.declared.kind.Ty.{Ty}
 use Rattle.plan_pipes.specs.declared.pipe.Feed.{Feed}
 use Rattle.plan_pipes.specs.Run.{fed, flow, through}
@@ -11,6 +11,8 @@ use Rattle.open_blocks.proofs.AddedLaws.{adds_none}
 use Rattle.open_blocks.specs.Files.{files_seen}
 use Rattle.open_blocks.specs.Taken.{Adds}
 use Rattle.pipe_feeds.proofs.KeptLaws.{left_same}
+use Rattle.read_rounds.specs.Bodies.{reads_made}
+use Rattle.pipe_flows.specs.Bodies.{HaveReadInTurn}
 use Rattle.pipe_flows.specs.Inputs.{columns_of, reads_seen}
 use Rattle.pipe_flows.specs.Receipts.{IsReceiptAt}
 use Rattle.table_engine.specs.Stands.{types_in}
@@ -102,3 +104,24 @@ returns-in_ok-of_set-in-Set-clause-receipts g c =
     let P = IsReceiptAt c.args.crew.now.workers (map (files_seen g.R.Reader.bytes) c.args.files.now.items) (reads_seen c.args.reads.now) in
     let old = c.args.receipts.now.items in
     subst (λ (fed : List ℕ). Adds P fed old old) (sym (ap fed_by c.in-Set.is)) (adds_none P old)
+
+pub returns-in_ok-of_read-in-Read-clause-reads : goal.returns-in_ok-of_read-in-Read-clause-reads
+returns-in_ok-of_read-in-Read-clause-reads g c =
+    let files = map (files_seen g.R.Reader.bytes) c.args.files.now.items in
+    let start = reads_made g.R.Reader.reads c.args.files.now.items in
+    let now = reads_made g.R.Reader.reads c.flow_read.new.files.items in
+    subst (λ (fed : List ℕ). HaveReadInTurn (reads_seen c.args.reads.now) files fed start now) (sym (ap fed_by c.in-Read.is)) (now, c.in_ok-of_read-in-Read.ensures.reads, refl)
+
+pub returns-in_ok-of_pipe-in-Pipe-clause-reads : goal.returns-in_ok-of_pipe-in-Pipe-clause-reads
+returns-in_ok-of_pipe-in-Pipe-clause-reads g c =
+    let files = map (files_seen g.R.Reader.bytes) c.args.files.now.items in
+    let start = reads_made g.R.Reader.reads c.args.files.now.items in
+    let now = reads_made g.R.Reader.reads c.args.files.now.items in
+    subst (λ (fed : List ℕ). HaveReadInTurn (reads_seen c.args.reads.now) files fed start now) (sym (ap fed_by c.in-Pipe.is)) refl
+
+pub returns-in_ok-of_set-in-Set-clause-reads : goal.returns-in_ok-of_set-in-Set-clause-reads
+returns-in_ok-of_set-in-Set-clause-reads g c =
+    let files = map (files_seen g.R.Reader.bytes) c.args.files.now.items in
+    let start = reads_made g.R.Reader.reads c.args.files.now.items in
+    let now = reads_made g.R.Reader.reads c.args.files.now.items in
+    subst (λ (fed : List ℕ). HaveReadInTurn (reads_seen c.args.reads.now) files fed start now) (sym (ap fed_by c.in-Set.is)) refl

@@ -10,6 +10,9 @@ use Rattle.open_blocks.specs.Taken.{Adds}
 use Rattle.pipe_flows.specs.Inputs.{reads_seen, IsOpenFor}
 use Rattle.pipe_flows.specs.Receipts.{IsReceiptAt}
 use Rattle.table_engine.specs.Stands.{HasRunPipe}
+use Rattle.read_rounds.specs.Bodies.{reads_made}
+use Rattle.pipe_flows.specs.Bodies.{HaveReadInTurn}
+use Rattle.table_engine.proofs.BodyLaws.{HaveReadSo, all_read, reads_begin, reads_go_on}
 use Rattle.table_engine.proofs.ErrorLaws.{error_same}
 use Rattle.table_engine.proofs.RunLaws.{IsRunning, run_begins, run_goes_on, next_over, run_ends, have_run, all_receipts}
 use Rattle.table_engine.proofs.run.run_pipes.Goals as goal
@@ -22,10 +25,12 @@ loop-pipe-init g c =
     let stores = c.new-stores.result in
     let old = c.args.receipts.now.items in
     let workers = c.args.crew.now.workers in
+    let made = reads_made g.R.Reader.reads c.args.files.now.items in
     record {
       running =
           subst (λ (left : List Pipe). IsRunning workers files reads pipes left stores old old) (sym c.into_iter-pipe-iterator.ensures.into_iter_gives.0)
           (run_begins workers files reads pipes stores old c.new-stores.ensures.streams c.new-stores.ensures.types c.new-stores.ensures.tables c.requires.over);
+      bodies = subst (λ (left : List Pipe). HaveReadSo reads files pipes left made made) (sym c.into_iter-pipe-iterator.ensures.into_iter_gives.0) (reads_begin reads files pipes made);
       seen = refl;
       never_falls = omega arith;
     }
@@ -49,11 +54,17 @@ loop-pipe-preserved g c =
     let reads = reads_seen c.args.reads.now in
     let workers = c.args.crew.now.workers in
     let pipe = c.in-Some.pipe in
+    let start = reads_made g.R.Reader.reads c.args.files.now.items in
+    let mid = reads_made g.R.Reader.reads c.loop-pipe.files.items in
+    let now = reads_made g.R.Reader.reads c.run_pipe.new.files.items in
     record {
       running =
           run_goes_on workers files reads c.args.pipes.items pipe (into_iter_items c.loop-pipe.pipe-iterator) (into_iter_items c.next.new.self) c.loop-pipe.stores c.run_pipe.new.stores c.args.receipts.now.items c.loop-pipe.receipts.items c.run_pipe.new.receipts.items
           c.in-Some.ensures.steps.0 before.running ran.types ran.typed (subst (λ (all : List FilesSeen). HasRunPipe all reads pipe c.loop-pipe.stores c.run_pipe.new.stores) before.seen ran.rows)
           (subst (λ (all : List FilesSeen). Adds (IsReceiptAt workers all reads) (fed_by pipe.feed) c.loop-pipe.receipts.items c.run_pipe.new.receipts.items) before.seen ran.receipts);
+      bodies =
+          reads_go_on reads files c.args.pipes.items pipe (into_iter_items c.loop-pipe.pipe-iterator) (into_iter_items c.next.new.self) start mid now c.in-Some.ensures.steps.0 before.bodies
+          (subst (λ (all : List FilesSeen). HaveReadInTurn reads all (fed_by pipe.feed) mid now) before.seen ran.reads);
       seen = ran.seen ∙ before.seen;
       never_falls = omega (arith, ran.cause.never_falls, before.never_falls);
     }
@@ -108,3 +119,9 @@ returns-clause-receipts g c =
 
 pub returns-clause-seen : goal.returns-clause-seen
 returns-clause-seen g c = c.loop-pipe.invariant.seen
+
+pub returns-clause-reads : goal.returns-clause-reads
+returns-clause-reads g c =
+    let left = into_iter_items c.loop-pipe.pipe-iterator in
+    all_read (reads_seen c.args.reads.now) (map (files_seen g.R.Reader.bytes) c.args.files.now.items) c.args.pipes.items left (reads_made g.R.Reader.reads c.args.files.now.items) (reads_made g.R.Reader.reads c.loop-pipe.files.items)
+    (none_left left (omega (arith, c.in-None.ensures.steps.0))) c.loop-pipe.invariant.bodies

@@ -14,7 +14,11 @@ use Rattle.open_blocks.specs.Files.{files_seen}
 use Rattle.open_blocks.specs.Taken.{Adds}
 use Rattle.open_blocks.proofs.AddedLaws.{all_added}
 use Rattle.pipe_flows.specs.Inputs.{reads_seen}
+use Rattle.fed_laws.proofs.CountLaws.{reads_differ}
+use Rattle.read_rounds.specs.Bodies.{reads_made}
+use Rattle.pipe_flows.specs.Bodies.{HaveReadInTurn}
 use Rattle.pipe_flows.specs.Receipts.{IsReceiptAt}
+use Rattle.table_engine.proofs.BodyLaws.{bodies_read}
 use Rattle.table_engine.proofs.EndLaws.{reads_typed, reads_open, pipes_ready, rows_are, rows_fit, kinds_are, kinds_in}
 use Rattle.table_engine.proofs.run.run_typed.Goals as goal
 
@@ -71,3 +75,14 @@ returns-clause-receipts g c =
     let receipts = c.run_pipes.new.receipts.items in
     let all : AllZip (P reads) (fed_in pipes) receipts = all_added (P reads) (fed_in pipes) c.new-receipts.result.items receipts c.new-receipts.ensures.items c.in_ok-stores.ensures.receipts in
     subst (λ (of : List ReadRel). AllZip (P of) (reads_of rel) receipts) are (subst (λ (fed : List ℕ). AllZip (P reads) fed receipts) c.in_ok-pipes.ensures.reads all)
+
+pub returns-clause-reads : goal.returns-clause-reads
+returns-clause-reads g c =
+    let rel = c.args.typed.now.rel in
+    let reads = reads_seen c.deref.result.now in
+    let are : reads ≡ read_rels rel = ap (map read_seen) c.deref.ensures.value ∙ c.in_ok-reads.ensures in
+    let files = map (files_seen g.R.Reader.bytes) c.args.files.now.items in
+    let start = reads_made g.R.Reader.reads c.args.files.now.items in
+    let now = reads_made g.R.Reader.reads c.run_pipes.new.files.items in
+    let fed : HaveReadInTurn reads files (reads_of rel) start now = subst (λ (numbers : List ℕ). HaveReadInTurn reads files numbers start now) c.in_ok-pipes.ensures.reads c.in_ok-stores.ensures.reads in
+    bodies_read (read_rels rel) files (reads_of rel) start now (reads_differ rel c.requires.numbers) (subst (λ (of : List ReadRel). HaveReadInTurn of files (reads_of rel) start now) are fed)
