@@ -1,6 +1,6 @@
 -- The files that are open for the read relations of a plan.
-use Rattle.std.proofs.Common.{◌≡◌, ◌∙◌, ℕ, ◌≤◌, ◌==◌, List, [], ◌∷◌, Bool, Option, Some, None, count_by, map, refl, sym, ap, ap₂, subst}
-use Rattle.std.specs.List.{All, AllByRecursion, AllZip, flat_map, sum_by}
+use Rattle.std.proofs.Common.{◌≡◌, ◌∙◌, ℕ, ◌≤◌, ◌==◌, List, [], ◌∷◌, Bool, Option, Some, count_by, map, refl, sym, ap, ap₂, subst}
+use Rattle.std.specs.List.{AllByRecursion, AllZip, flat_map, sum_by}
 use Rattle.std.proofs.lemmas.List.Elements.{recursion_from_All}
 use Rattle.std.proofs.lemmas.Simd.{map-map}
 use Rattle.sub_types.specs.Stream.{Stream, glue}

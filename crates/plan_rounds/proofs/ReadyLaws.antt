@@ -1,5 +1,5 @@
 -- A relation of a plan may be run over open files once the values of the earlier subqueries are put in.
-use Rattle.std.proofs.Common.{◌≡◌, ℕ, ◌+◌, ◌<◌, List, [], ◌∷◌, ◌++◌, Bool, cond, ◌==◌, count_by, Result, Ok, IfOk, drop, get_or, map, length, sym, ap, ◌∙◌, subst, arith}
+use Rattle.std.proofs.Common.{◌≡◌, ℕ, ◌+◌, ◌<◌, List, [], ◌∷◌, ◌++◌, Bool, cond, ◌==◌, count_by, Result, Ok, IfOk, drop, get_or, length, sym, ap, ◌∙◌, subst, arith}
 use Rattle.std.specs.List.{AllByRecursion, AllZip}
 use Rattle.std.proofs.lemmas.List.{drop_more, map_push}
 use Rattle.std.proofs.lemmas.List.Sums.{sum_by-append}
@@ -23,7 +23,6 @@ use Rattle.denote_typed.specs.Holes.{AwaitsIn, AwaitsAt, AreAwaited}
 use Rattle.denote_typed.proofs.FillRelLaws.{Every, every_both, IsTakenBy, filled_typed}
 use Rattle.denote_typed.proofs.PlanLaw.{more, none_known, level_more, Goes, worth_goes, unless_goes}
 use Rattle.read_laws.proofs.FillLaws.{filled_alike}
-use Rattle.plan_reads.specs.declared.reads.PlanRead.{PlanRead}
 use Rattle.plan_reads.specs.Reads.{reads_of}
 use Rattle.plan_laws.proofs.FilledLaws.{reads_filled}
 use Rattle.plan_laws.proofs.Levels.{AllReads}

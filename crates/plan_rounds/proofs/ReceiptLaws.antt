@@ -1,5 +1,5 @@
 -- The receipts of the read relations of a plan's relations, in the order in which they were read, and then by their numbers.
-use Rattle.std.proofs.Common.{◌≡◌, ◌∙◌, ◌≤◌, ◌+◌, ◌==◌, ℕ, List, [], ◌∷◌, ◌++◌, Bool, true, false, cond, Option, Some, None, map, refl, sym, ap, subst, append-nil, eqb-true, arith}
+use Rattle.std.proofs.Common.{◌≡◌, ◌∙◌, ◌≤◌, ◌+◌, ◌==◌, ℕ, List, [], ◌∷◌, ◌++◌, Bool, true, false, cond, Option, Some, map, refl, sym, ap, subst, append-nil, eqb-true, arith}
 use Rattle.std.specs.Prelude.{if◌then◌else◌}
 use Rattle.std.specs.List.{AllByRecursion, AllZip, flat_map, count_by}
 use Rattle.std.specs.Ordering.{nat_cmp}
@@ -17,11 +17,11 @@ use Rattle.well_typed.specs.WellTyped.{IsWellTyped}
 use Rattle.plan_denote.specs.Holes.{Known, filled}
 use Rattle.plan_denote.specs.Sort.{arranged}
 use Rattle.plan_reads.specs.declared.reads.PlanRead.{PlanRead}
-use Rattle.plan_reads.specs.Reads.{origin_of, read_of, reads_in, by_relation, reads_of as plan_reads_of}
+use Rattle.plan_reads.specs.Reads.{read_of, reads_in, reads_of as plan_reads_of}
 use Rattle.plan_laws.proofs.FilledLaws.{reads_filled}
 use Rattle.plan_laws.proofs.FoundLaws.{all_there}
 use Rattle.plan_laws.proofs.Levels.{AllReads}
-use Rattle.plan_laws.proofs.PlanReadLaws.{arranged_all, in_plan}
+use Rattle.plan_laws.proofs.PlanReadLaws.{arranged_all}
 use Rattle.read_laws.specs.Typed.{read_as}
 use Rattle.read_laws.proofs.FillLaws.{filled_alike}
 use Rattle.cut_laws.specs.Found.{ReadRel, read_at, read_rels}

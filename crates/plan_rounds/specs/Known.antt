@@ -1,11 +1,10 @@
 -- What a plan's subqueries are worth over open files, and what follows for its main relation.
-use Rattle.std.specs.Prelude.{◌≡◌, ℕ, List, [], Result, Ok, Err, IfOk, Vec, map}
+use Rattle.std.specs.Prelude.{◌≡◌, ℕ, List, [], Result, IfOk, Vec, map}
 use Rattle.std.specs.declared.alloc.Global.{Global}
 use Rattle.std.specs.List.{AllByRecursion, AllZip, flat_map}
 use Rattle.sub_types.specs.declared.fault.Fault.{Fault}
 use Rattle.plan_typed.specs.declared.rel.Rel.{Rel}
 use Rattle.plan_typed.specs.declared.sub.Holed.{Holed}
-use Rattle.plan_typed.specs.declared.sub.Sub.{Sub}
 use Rattle.plan_denote.specs.Denote.{Tables}
 use Rattle.plan_denote.specs.Holes.{filled}
 use Rattle.plan_denote.specs.Subqueries.{worths}
@@ -17,7 +16,6 @@ use Rattle.pipe_flows.specs.Receipts.{IsReceiptOf}
 use Rattle.plan_reads.specs.declared.reads.PlanRead.{PlanRead}
 use Rattle.run_words.specs.declared.status.PipeReceipt.{PipeReceipt}
 use Rattle.sub_query.specs.declared.worth.KnownWorth.{KnownWorth}
-use Rattle.sub_query.specs.Known.{known_seen}
 use Rattle.plan_rows.specs.Seen.{all_seen}
 use Rattle.table_engine.specs.Inputs.{AreTablesOf}
 use Rattle.plan_rounds.specs.Inputs.{batches_of}

@@ -1,4 +1,4 @@
-use Rattle.std.proofs.Common.{◌≡◌, List, map, sym, subst}
+use Rattle.std.proofs.Common.{◌≡◌, map, sym, subst}
 use Rattle.std.specs.List.{All}
 use Rattle.batch.specs.BatchRows.{types_of}
 use Rattle.plan_typed.specs.declared.rel.Rel.{Rel}

@@ -1,4 +1,4 @@
-use Rattle.std.proofs.Common.{◌≡◌, ◌∙◌, List, Ok, Err, map, refl, sym, ap, subst}
+use Rattle.std.proofs.Common.{◌≡◌, List, map, sym, ap, subst}
 use Rattle.std.specs.List.{All}
 use Rattle.sub_types.specs.declared.kind.Ty.{Ty}
 use Rattle.batch.specs.BatchRows.{types_of}

@@ -1,6 +1,5 @@
-use Rattle.std.proofs.Common.{◌≡◌, ◌∙◌, ◌<◌, ◌≤◌, ◌+◌, ℕ, List, Result, Ok, Err, get_or, length, map, refl, sym, ap, subst, arith}
+use Rattle.std.proofs.Common.{◌≡◌, ◌∙◌, ◌<◌, ◌≤◌, ◌+◌, ℕ, List, Result, get_or, length, map, refl, sym, ap, subst, arith}
 use Rattle.sub_types.specs.declared.fault.Fault.{Fault}
-use Rattle.plan_typed.specs.declared.sub.Sub.{Sub}
 use Rattle.plan_denote.specs.Holes.{Worth, filled}
 use Rattle.cut_laws.specs.Found.{read_rels}
 use Rattle.cut_laws.specs.Reads.{reads_of}
@@ -8,7 +7,7 @@ use Rattle.open_blocks.specs.Files.{FilesSeen, files_seen}
 use Rattle.open_blocks.specs.Taken.{Adds}
 use Rattle.pipe_flows.specs.Receipts.{IsReceiptAt}
 use Rattle.sub_query.specs.declared.worth.KnownWorth.{KnownWorth}
-use Rattle.sub_query.specs.Known.{found_seen, known_seen, worth_seen}
+use Rattle.sub_query.specs.Known.{found_seen, known_seen}
 use Rattle.plan_rounds.specs.Inputs.{IsWorthOf}
 use Rattle.plan_rounds.specs.Ready.{IsReady}
 use Rattle.plan_rounds.proofs.SoFarLaws.{IsSoFar, begins, next_ready, ends_so, goes_on, all_known}

@@ -1,4 +1,4 @@
-use Rattle.std.proofs.Common.{◌≡◌, ◌∙◌, ℕ, List, [], map, slice_index_or, refl, sym, ap, subst}
+use Rattle.std.proofs.Common.{◌∙◌, ℕ, List, [], map, slice_index_or, refl, sym, ap, subst}
 use Rattle.sub_types.specs.declared.kind.Ty.{Ty}
 use Rattle.plan_pipes.specs.declared.pipe.Feed.{Feed}
 use Rattle.plan_pipes.specs.Run.{fed, flow, through}

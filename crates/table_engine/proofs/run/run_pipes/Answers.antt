@@ -1,11 +1,11 @@
-use Rattle.std.proofs.Common.{◌≡◌, ◌∙◌, [], List, Err, length, map, refl, sym, ap, subst, arith}
+use Rattle.std.proofs.Common.{◌≡◌, ◌∙◌, [], List, Err, map, refl, sym, ap, subst, arith}
 use Rattle.std.proofs.lemmas.Result.{err_from_is_err_and}
 use Rattle.std.specs.List.{All}
 use Rattle.std.specs.Vec.Iter.{into_iter_items}
 use Rattle.plan_pipes.specs.declared.pipe.Pipe.{Pipe}
 use Rattle.plan_tables.proofs.FileLaws.{none_left}
 use Rattle.cut_flows.specs.Given.{fed_by}
-use Rattle.open_blocks.specs.Files.{FilesSeen, faults_of, files_seen}
+use Rattle.open_blocks.specs.Files.{FilesSeen, files_seen}
 use Rattle.open_blocks.specs.Taken.{Adds}
 use Rattle.pipe_flows.specs.Inputs.{reads_seen, IsOpenFor}
 use Rattle.pipe_flows.specs.Receipts.{IsReceiptAt}

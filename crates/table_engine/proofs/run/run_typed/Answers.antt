@@ -1,4 +1,4 @@
-use Rattle.std.proofs.Common.{◌≡◌, ◌∙◌, ◌-◌, ℕ, List, [], length, map, sym, ap, subst, arith}
+use Rattle.std.proofs.Common.{◌≡◌, ◌∙◌, ◌-◌, ℕ, List, length, map, sym, ap, subst, arith}
 use Rattle.std.specs.List.{AllByRecursion, AllZip}
 use Rattle.sub_types.specs.Stream.{Stream}
 use Rattle.sub_types.specs.Value.{Fits}
@@ -11,7 +11,6 @@ use Rattle.read_sources.specs.Seen.{read_seen}
 use Rattle.run_words.specs.declared.status.PipeReceipt.{PipeReceipt}
 use Rattle.set_rels.specs.Inputs.{stream_of}
 use Rattle.open_blocks.specs.Files.{files_seen}
-use Rattle.open_blocks.specs.Taken.{Adds}
 use Rattle.open_blocks.proofs.AddedLaws.{all_added}
 use Rattle.pipe_flows.specs.Inputs.{reads_seen}
 use Rattle.fed_laws.proofs.CountLaws.{reads_differ}
