@@ -1,0 +1,3 @@
+mod SpecLaws
+mod StepLaws
+mod TableLaws
