@@ -1,4 +1,4 @@
-// The workers in threads of their own, one each. Where a thread can't be made, the caller does its work.
+// The workers in threads, of which each has some of them. Where a thread can't be made, the caller does its work.
 ghost use Rattle.std.specs.Prelude.{◌≡◌, ◌<◌, All, length, map, vec_len};
 ghost use Rattle.crew.specs.Labours.{labour_view};
 ghost use Rattle.crew.specs.Workers.{IsReady, IsDone, IsEnded, AllDone};
@@ -18,14 +18,14 @@ fn fork_workers<H: Threads + Wait + Sync, T: Numbered, L: Labour<T> + Send, G: G
     claims: &Claims,
     hand: &HandOff<T>,
     gate: &G,
+    threads: usize,
     workers: &mut [Worker<T, L>],
 )
-    requires some { 0 < length workers.old }
+    requires threads { 0 < threads }
     requires ready { All (IsReady (λ l. labour_view (L.about l) (L.loaded l) (L.results l) (L.failures l)) claims.now hand.now) workers.old }
     ensures { AllDone (IsDone T.number_of L.Out.number_of L.right L.failed L.fits
         (λ l. labour_view (L.about l) (L.loaded l) (L.results l) (L.failures l)) claims.now hand.now) workers.old workers.new }
 {
-    let threads = workers.len();
     thread::for_each_mut(
         rt,
         workers,
@@ -39,22 +39,31 @@ fn fork_workers<H: Threads + Wait + Sync, T: Numbered, L: Labour<T> + Send, G: G
     );
 }
 
-/// Runs the workers, one thread each, until each has met the end or found no memory. A thread that can't be made is
-/// no error: its worker runs on this thread.
+/// Runs the workers, in at most so many threads, until each has met the end or found no memory. A thread that can't be made is
+/// no error: its workers run on this thread.
 pub fn run_workers<H: Threads + Wait + Sync, T: Numbered, L: Labour<T> + Send, G: Gate>(
     rt: &H,
     alloc: Global,
     claims: &Claims,
     hand: &HandOff<T>,
     gate: &G,
+    threads: usize,
     mut workers: Vec<Worker<T, L>>,
 ) -> Vec<Worker<T, L>>
-    requires some { 0 < vec_len workers }
+    requires threads { 0 < threads }
     requires ready { All (IsReady (λ l. labour_view (L.about l) (L.loaded l) (L.results l) (L.failures l)) claims.now hand.now) workers.items }
     ensures about { map (λ w. L.about w.labour) result.items ≡ map (λ w. L.about w.labour) workers.items }
     ensures ended { All (IsEnded T.number_of L.Out.number_of L.right L.failed L.fits
         (λ l. labour_view (L.about l) (L.loaded l) (L.results l) (L.failures l)) claims.now hand.now) result.items }
 {
-    fork_workers(rt, alloc, claims, hand, gate, workers.as_mut_slice());
+    fork_workers(
+        rt,
+        alloc,
+        claims,
+        hand,
+        gate,
+        threads,
+        workers.as_mut_slice(),
+    );
     workers
 }

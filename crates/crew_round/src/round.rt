@@ -27,7 +27,7 @@ pub struct Round<O> {
     pub outs: Vec<O>,
 }
 
-/// Loads and works the numbers below `n`, one worker a labour, whatever their turns are. What the workers leave in
+/// Loads and works the numbers below `n`, one worker a labour, whatever their turns are. There are no more threads than numbers. What the workers leave in
 /// their queue, which takes twice as many items as there are workers, the last labour works at the end. Each labour
 /// stays in its place, also without memory.
 pub fn run_round<H: Threads + Wait + Sync, T: Numbered, L: Gives<T> + Send + Drop, G: Gate>(
@@ -56,13 +56,25 @@ pub fn run_round<H: Threads + Wait + Sync, T: Numbered, L: Gives<T> + Send + Dro
         → All (IsFair L.right L.failed L.fits a (sum_by L.failures labours.new.items)) r.outs.items) }
 {
     let workers = labours.len();
+    let threads = threads_for(n, workers);
     let (claims, seats) = Claims::new(alloc, n, workers as u32)?;
     let (hand, passes) = HandOff::new(rt, alloc, 2 * workers as u32, workers as u32)?;
     let room = Vec::with_capacity(alloc, workers)?;
     let parts = Parts::with_capacity(alloc, workers)?;
     let crew = workers_of(&claims, &hand, seats, passes, labours, room);
-    let crew = run_workers(rt, alloc, &claims, &hand, gate, crew);
+    let crew = run_workers(rt, alloc, &claims, &hand, gate, threads, crew);
     let parts = parts_of(crew, parts, labours);
     let round = close_round(rt, alloc, claims, hand, parts, labours)?;
     Ok(round)
+}
+
+// One for each worker, and where there are fewer numbers, one for each number, but one at least.
+fn threads_for(n: u64, workers: usize) -> usize
+    requires { 1 ≤ workers }
+    ensures some { 1 ≤ result }
+    ensures few { result ≤ workers }
+    ensures none_spare { 1 ≤ n → result ≤ n }
+    ensures all { workers ≤ n → result ≡ workers }
+{
+    (workers as u64).min(n).max(1) as usize
 }

@@ -13,11 +13,6 @@ use Rattle.crew_round.proofs.Together.{have_ended}
 use Rattle.crew_round.proofs.Whole.{back_length, maps_length, back_same, all_same}
 use Rattle.crew_round.proofs.round.run_round.Goals as goal
 
-pub run_workers-crew-requires-clause-some : goal.run_workers-crew-requires-clause-some
-run_workers-crew-requires-clause-some g c =
-    let len = back_length (λ (w : Worker g.row.T.Denot g.row.L.Denot). w.labour) c.workers_of-crew.result.items c.args.labours.now.items c.workers_of-crew.ensures.moved in
-    omega (arith, len, c.requires.workers)
-
 pub parts_of-parts-requires-clause-room : goal.parts_of-parts-requires-clause-room
 parts_of-parts-requires-clause-room g c =
     let W = Worker g.row.T.Denot g.row.L.Denot in
