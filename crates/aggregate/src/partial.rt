@@ -86,6 +86,7 @@ impl Partial {
         requires over { IsForSome spec.now self }
         ensures stream { (rows : Stream Row) → IsOf spec.now rows self → IfOk result (λ piece. stream_of_piece piece ≡ aggregated_by spec.now rows) }
         ensures types { IfOk result (λ piece. types_of piece.batch ≡ types_by spec.now) }
+        ensures number { IfOk result (λ piece. piece.batch.number ≡ 0) }
         ensures lost { is_lost self ≡ true → IsErr result }
     {
         let alloc = *spec.groups.allocator();
