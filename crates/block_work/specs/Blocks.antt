@@ -15,8 +15,8 @@ use Rattle.round_end.specs.declared.outcome.Outcome.{Outcome}
 use Rattle.round_end.specs.declared.outcome.Outcome.TheVariants.{ReadFault}
 use Rattle.table_rows.specs.Blocks.{block_stream}
 use Rattle.table_rows.specs.Read.{kinds_of}
-use Rattle.pipe_work.specs.declared.passed.Passed.{Passed}
-use Rattle.pipe_work.specs.Passed.{IsWorkedTo}
+use Rattle.pipe_work.specs.declared.kept.Kept.{Kept}
+use Rattle.pipe_work.specs.Kept.{IsMade}
 use Rattle.block_work.specs.declared.reading.TableSteps.{TableSteps}
 
 -- the dictionaries of a file, if it exists
@@ -36,10 +36,10 @@ rows_with steps place raw = rows_by (dictionaries_in (slice_get steps.table.now.
 abbrev pub block_at : TableSteps → BlockPlace → Option (List Row) → Stream Row
 block_at steps place rows = block_stream steps.relation (slice_index_or steps.numbers.now place.file 0) place.block rows
 
--- a failed read stays one; else the rows are taken through the steps, where they have the kinds of the input's columns
-abbrev pub IsMadeOf : TableSteps → ℕ → BlockRead → Outcome Passed → Type 0
+-- a failed read stays one; else the rows are taken through the steps, where they have the kinds of the input's columns, and what the breaker needs is kept
+abbrev pub IsMadeOf : TableSteps → ℕ → BlockRead → Outcome Kept → Type 0
 IsMadeOf steps number (reads.Whole raw) made = (place : BlockPlace) → slice_get (places_of steps.table.now.files.items) number ≡ Some place → kinds_of (map wanted_type raw.columns.items) ≡ kinds_of steps.pipe.now.types
-    → IsWorkedTo steps.pipe.now (block_at steps place (rows_with steps place raw)) made
-IsMadeOf steps number reads.Bad made = (place : BlockPlace) → slice_get (places_of steps.table.now.files.items) number ≡ Some place → IsWorkedTo steps.pipe.now (block_at steps place None) made
+    → IsMade steps.pipe.now (block_at steps place (rows_with steps place raw)) made
+IsMadeOf steps number reads.Bad made = (place : BlockPlace) → slice_get (places_of steps.table.now.files.items) number ≡ Some place → IsMade steps.pipe.now (block_at steps place None) made
 IsMadeOf steps number reads.Failed made = made ≡ ReadFault
 IsMadeOf steps number reads.Absent made = Unit {0}

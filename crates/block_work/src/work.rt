@@ -7,19 +7,19 @@ use crate::reading::TableSteps;
 use arrow_decode::Raw;
 use block_source::BlockRead;
 use pipe_labour::Work;
-use pipe_work::{Passed, outcome_of};
+use pipe_work::{Kept, outcome_of};
 use round_end::Outcome;
 use std::alloc::Global;
 use sub_types::NoMemory;
 
-/// Decodes a block, and takes its rows through the table's steps.
+/// Decodes a block, takes its rows through the table's steps, and keeps what their breaker needs.
 #[derive(Clone, Copy)]
 pub struct BlockWork<'l, 'p, 's> {
     pub steps: &'l TableSteps<'p, 's>,
 }
 
 impl<'l, 'p, 's> Work<BlockRead> for BlockWork<'l, 'p, 's> {
-    type Made = Outcome<Passed>;
+    type Made = Outcome<Kept>;
 
     type Sense = BlockWork<'l, 'p, 's>;
 
@@ -34,7 +34,7 @@ impl<'l, 'p, 's> Work<BlockRead> for BlockWork<'l, 'p, 's> {
         alloc: Global,
         number: u64,
         given: BlockRead,
-    ) -> Result<Outcome<Passed>, NoMemory> {
+    ) -> Result<Outcome<Kept>, NoMemory> {
         make_of(alloc, self.steps, number, given)
     }
 }
@@ -44,7 +44,7 @@ fn make_of(
     steps: &TableSteps,
     number: u64,
     given: BlockRead,
-) -> Result<Outcome<Passed>, NoMemory>
+) -> Result<Outcome<Kept>, NoMemory>
     ensures { IfOk result (IsMadeOf steps.now number given) }
 {
     let Some(place) = steps.table.place(number) else {

@@ -29,12 +29,10 @@ use Rattle.agree_laws.proofs.TypeLaws.{each_of_types}
 use Rattle.open_blocks.specs.declared.files.ReadFiles.{ReadFiles}
 use Rattle.open_blocks.specs.Files.{AllTell, AreFilesOf, FilesSeen, files_at, files_seen, tables_in}
 use Rattle.open_blocks.specs.Files as open_files
-use Rattle.read_rounds.specs.Told.{TellsRows, blocks_at}
+use Rattle.plan_rounds.specs.Inputs.{TellsRows, blocks_at, AreTablesOf, IsOpenRead, batches_of, input_read}
 use Rattle.crew_tables.specs.Receipts as crew
-use Rattle.pipe_flows.specs.Receipts as flows
+use Rattle.plan_rounds.specs.Inputs as flows
 use Rattle.run_words.specs.declared.status.PipeReceipt.{PipeReceipt}
-use Rattle.table_engine.specs.Inputs.{AreTablesOf}
-use Rattle.plan_rounds.specs.Inputs.{IsOpenRead, batches_of, input_read}
 use Rattle.gather_plans.specs.Over.{AreRowsOver, input_of}
 
 -- the files with a number, and the rows of blocks

@@ -6,6 +6,7 @@ use Rattle.plan_denote.specs.Denote.{Tables}
 use Rattle.plan_denote.specs.Rows.{Row}
 use Rattle.plan_denote.specs.Subqueries.{denote_plan}
 use Rattle.plan_tables.specs.Tables.{Opened, batches_in, tables_of}
+pub use Rattle.plan_rounds.specs.Inputs.{gathered_stream}
 
 -- the plan denotes them over some tables, and over those of its files where these are told
 pub record AreRowsOver (told : Type 0) (opened : List Opened) (plan : Holed) (rows : Stream Row) : Type 0 where

@@ -9,14 +9,13 @@ ghost use Rattle.denote_typed.specs.Holes.{AreAwaited};
 ghost use Rattle.plan_reads.specs.Reads.{reads_of};
 ghost use Rattle.plan_tables.specs.Open.{open_seen, AllReady, AllTold, count_open};
 ghost use Rattle.crew_tables.specs.Receipts.{IsReceiptOf};
-ghost use Rattle.table_engine.specs.Inputs.{gathered_stream};
+ghost use Rattle.plan_rounds.specs.Inputs.{gathered_stream};
 ghost use Rattle.gather_plans.specs.Over.{AreRowsOver, input_of};
 
 use open_blocks::{close_files, take_files};
-use plan_rounds::{Gathered, run_plan};
+use plan_rounds::{Crew, Gathered, run_plan};
 use plan_tables::OpenRead;
 use plan_typed::Holed;
-use read_rounds::Crew;
 use std::alloc::Global;
 use std::marker::Sync;
 use std::sync::Wait;

@@ -6,5 +6,4 @@
 mod gather;
 
 pub use gather::gather_plan;
-pub use plan_rounds::Gathered;
-pub use read_rounds::Crew;
+pub use plan_rounds::{Crew, Gathered};

@@ -1,11 +1,10 @@
 -- Pieces up to their first fault, and pieces behind others.
-use Rattle.std.proofs.Common.{◌≡◌, ◌∙◌, ◌+◌, ◌<◌, ℕ, length, get_or, take, List, [], ◌∷◌, ◌++◌, Option, Some, None, map, refl, sym, ap, subst, append_assoc}
-use Rattle.std.specs.List.{All, AllByRecursion}
-use Rattle.std.proofs.lemmas.List.{append-nil, map-append, map_push, take_more}
+use Rattle.std.proofs.Common.{◌≡◌, ◌∙◌, List, [], ◌∷◌, ◌++◌, Option, Some, None, map, refl, sym, ap, subst, append_assoc}
+use Rattle.std.specs.List.{All, AllByRecursion, flat_map}
+use Rattle.std.proofs.lemmas.List.{append-nil, map-append}
 use Rattle.std.proofs.lemmas.List.Elements.{All-nil, All-cons}
 use Rattle.sub_types.specs.declared.fault.Fault.{Fault}
-use Rattle.sub_types.specs.Stream.{Stream, rows_alone, followed_by, glue}
-use Rattle.sub_types.proofs.StreamLaws.{glue-append}
+use Rattle.sub_types.specs.Stream.{Stream, rows_alone, followed_by}
 use Rattle.batch.specs.declared.batch.Piece.{Piece}
 use Rattle.batch.specs.BatchRows.{rows_of, stream_of_piece}
 use Rattle.plan_denote.specs.Rows.{Row}
@@ -13,7 +12,7 @@ use Rattle.set_rels.specs.Inputs.{stream_of, rows_in}
 use Rattle.pipe_ends.specs.Given.{behind, up_to_fault}
 
 -- a stream of these rows and this end
-abbrev stream : List Row → Option Fault → Stream Row
+abbrev pub stream : List Row → Option Fault → Stream Row
 stream rows end = record { rows = rows; end = end }
 
 same_behind : (rows : List Row) (end : Option Fault) (rest kept : List Piece) → stream_of kept ≡ stream_of rest → followed_by (stream rows end) (stream_of (behind end kept)) ≡ followed_by (stream rows end) (stream_of rest)
@@ -48,16 +47,8 @@ alone : (rows : List Row) (end : Option Fault) → followed_by (stream rows end)
 alone rows None = ap (λ all. stream all None) (append-nil rows)
 alone rows (Some fault) = refl
 
--- one piece more
-same_alone : (s : Stream Row) → followed_by s (rows_alone []) ≡ s
+pub same_alone : (s : Stream Row) → followed_by s (rows_alone []) ≡ s
 same_alone s = alone s.rows s.end
-
-pub stream_more : (pieces : List Piece) (at : ℕ) (piece : Piece) → at < length pieces → piece ≡ get_or pieces at piece → followed_by (stream_of (take at pieces)) (stream_of_piece piece) ≡ stream_of (take (at + 1) pieces)
-stream_more pieces at piece below is =
-    sym (ap stream_of (take_more pieces at piece below ∙ ap (λ (one : Piece). take at pieces ++ one ∷ []) (sym is))
-    ∙ ap glue (map_push stream_of_piece (take at pieces) piece)
-    ∙ glue-append (map stream_of_piece (take at pieces)) (stream_of_piece piece ∷ [])
-    ∙ ap (followed_by (stream_of (take at pieces))) (same_alone (stream_of_piece piece)))
 
 -- one piece alone
 pub one_stream : (pieces : List Piece) (piece : Piece) (s : Stream Row) → pieces ≡ piece ∷ [] → stream_of_piece piece ≡ s → stream_of pieces ≡ s
@@ -67,12 +58,19 @@ pub one_holds : (P : Piece → Type 0) (pieces : List Piece) (piece : Piece) →
 one_holds P pieces piece is here = subst (All P) (sym is) (All-cons P piece [] here (All-nil P))
 
 -- one item more, of a list that is gone over
-pub mapped_more : {A B C : Type 0} (f : A → C) (g : B → C) (old new : List A) (x : A) (y : B) (all rest : List B) (whole : List C) → all ≡ y ∷ rest → new ≡ old ++ x ∷ [] → f x ≡ g y → map f old ++ map g all ≡ whole
-    → map f new ++ map g rest ≡ whole
-mapped_more f g old new x y all rest whole parts pushed same so_far =
-    ap (λ l. map f l ++ map g rest) pushed
-    ∙ ap (λ l. l ++ map g rest) (map-append f old (x ∷ []))
-    ∙ append_assoc (map f old) (f x ∷ []) (map g rest)
-    ∙ ap (λ one. map f old ++ one ∷ map g rest) same
-    ∙ ap (λ l. map f old ++ map g l) (sym parts)
+pub held_more : {A B : Type 0} (f : A → B) (old new : List A) (x : A) (y : B) (all rest whole : List B) → all ≡ y ∷ rest → new ≡ old ++ x ∷ [] → f x ≡ y → map f old ++ all ≡ whole → map f new ++ rest ≡ whole
+held_more f old new x y all rest whole parts pushed same so_far =
+    ap (λ l. map f l ++ rest) pushed
+    ∙ ap (λ l. l ++ rest) (map-append f old (x ∷ []))
+    ∙ append_assoc (map f old) (f x ∷ []) rest
+    ∙ ap (λ one. map f old ++ one ∷ rest) same
+    ∙ ap (λ l. map f old ++ l) (sym parts)
     ∙ so_far
+
+pub flat_more : {A B : Type 0} (f : B → List A) (old new : List A) (x : A) (y : B) (all rest : List B) (whole : List A) → all ≡ y ∷ rest → new ≡ old ++ x ∷ [] → x ∷ [] ≡ f y → old ++ flat_map f all ≡ whole → new ++ flat_map f rest ≡ whole
+flat_more f old new x y all rest whole parts pushed same so_far =
+    let left : old ++ (f y ++ flat_map f rest) ≡ whole = ap (λ l. old ++ flat_map f l) (sym parts) ∙ so_far in
+    ap (λ l. l ++ flat_map f rest) pushed
+    ∙ append_assoc old (x ∷ []) (flat_map f rest)
+    ∙ ap (λ l. old ++ (l ++ flat_map f rest)) same
+    ∙ left

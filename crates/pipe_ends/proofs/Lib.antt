@@ -1,6 +1,8 @@
 mod CountLaws
 mod EndLaws
 mod FitLaws
+mod PartLaws
+mod MergeLaws
 mod SortLaws
 mod TableLaws
 mod SetLaws

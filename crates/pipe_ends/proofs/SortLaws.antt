@@ -1,16 +1,13 @@
 -- Sorts in runs: what holds of the rows, and the columns of their keys.
-use Rattle.std.proofs.Common.{◌≡◌, ◌∙◌, ℕ, ◌<◌, List, [], ◌∷◌, ◌++◌, true, false, Option, Some, None, map, length, slice_index_or, refl, sym, ap, subst, arith}
+use Rattle.std.proofs.Common.{◌≡◌, ◌∙◌, ◌<◌, List, [], ◌∷◌, ◌++◌, true, false, Option, Some, None, map, length, slice_index_or, refl, sym, ap, subst, arith}
 use Rattle.std.specs.Prelude.{is_some}
 use Rattle.std.specs.List.{All, AllByRecursion, flat_map}
-use Rattle.std.proofs.lemmas.List.{length-map}
-use Rattle.std.proofs.lemmas.List.Elements.{All-from_recursion}
 use Rattle.sub_types.specs.declared.fault.Fault.{Fault}
 use Rattle.sub_types.specs.Stream.{Stream, rows_alone, ended}
 use Rattle.sub_types.specs.declared.kind.Ty.{Ty}
 use Rattle.batch.specs.declared.batch.Batch.{Batch}
 use Rattle.batch.specs.declared.batch.Piece.{Piece}
 use Rattle.batch.specs.BatchRows.{rows_of, types_of}
-use Rattle.batch.specs.Column.{column_type}
 use Rattle.plan_denote.specs.Rows.{Row, from_all}
 use Rattle.plan_denote.specs.Sort.{sorted_rows}
 use Rattle.plan_pipes.specs.RowMeaning.{sorted_by, keyed_by, direction_in}
@@ -21,14 +18,11 @@ use Rattle.sort_merge.proofs.ArrangedLaws.{all_arranged}
 use Rattle.sort_merge.proofs.OrderLaws.{in_order_is, sorted_is, in_order-runs}
 use Rattle.sort_merge.specs.RowOrder.{in_order, row_cmp}
 use Rattle.well_typed.specs.WellTyped.{AreBelow}
+use Rattle.pipe_parts.proofs.RunLaws.{columns_of_batch}
 
 -- what holds of the rows holds of them in order
 pub in_order_all : (P : Row → Type 0) (keys : List KeyOrder) (rows : List Row) → AllByRecursion P rows → AllByRecursion P (in_order keys rows)
 in_order_all P keys rows all = subst (AllByRecursion P) (sym (in_order_is keys rows)) (all_arranged P (row_cmp keys) rows all)
-
--- a run in order
-pub run_is : (keys : List KeyOrder) (sorted rows : List Row) → rows_alone sorted ≡ sorted_by keys (rows_alone rows) → sorted ≡ in_order keys rows
-run_is keys sorted rows is = ap (λ (s : Stream Row). s.rows) (is ∙ sorted_is keys rows)
 
 -- the rows of pieces whose runs are in order
 flat_rows : (runs : List Batch) → flat_map rows_of runs ≡ flat_map (λ (rows : List Row). rows) (map rows_of runs)
@@ -52,16 +46,7 @@ runs_are keys pieces runs each =
 pub none_in_order : (keys : List KeyOrder) → [] ≡ in_order keys []
 none_in_order keys = sym (in_order_is keys [])
 
--- keys over the columns of a batch
-below_each : (count : ℕ) (keys : List KeyOrder) → AreBelow count (map (λ (key : KeyOrder). key.column) keys) → AllByRecursion (λ (key : KeyOrder). key.column < count) keys
-below_each count [] below = tt
-below_each count (key ∷ keys) below = (below.0, below_each count keys below.1)
-
-pub columns_of_batch : (keys : List KeyOrder) (types : List Ty) (batch : Batch) → AreBelow (length types) (map (λ (key : KeyOrder). key.column) keys) → types_of batch ≡ types → All (λ (key : KeyOrder). key.column < length batch.columns.items) keys
-columns_of_batch keys types batch below same =
-    let width : length types ≡ length batch.columns.items = ap length (sym same) ∙ length-map batch.columns.items column_type in
-    subst (λ count. All (λ (key : KeyOrder). key.column < count) keys) width (All-from_recursion (λ (key : KeyOrder). key.column < length types) keys (below_each (length types) keys below))
-
+-- keys over the columns of each run
 pub columns_of_all : (keys : List KeyOrder) (types : List Ty) (runs : List Batch) → AreBelow (length types) (map (λ (key : KeyOrder). key.column) keys) → All (λ (run : Batch). types_of run ≡ types) runs
     → All (λ (run : Batch). All (λ (key : KeyOrder). key.column < length run.columns.items) keys) runs
 columns_of_all keys types runs below same = λ k d within. columns_of_batch keys types (slice_index_or runs k d) below (same k d within)

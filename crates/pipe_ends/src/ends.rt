@@ -1,61 +1,64 @@
 // Where pieces end.
-ghost use Rattle.std.specs.Prelude.{◌≡◌, ◌∷◌, [], take, is_some, All, IfOk};
+ghost use Rattle.std.specs.Prelude.{◌≡◌, ◌∷◌, [], take, All, IfOk};
 ghost use Rattle.sub_types.specs.Stream.{ended};
 ghost use Rattle.batch.specs.BatchRows.{rows_of, types_of};
 ghost use Rattle.set_rels.specs.Inputs.{stream_of};
 ghost use Rattle.pipe_steps.specs.Ready.{IsFit};
 ghost use Rattle.pipe_ends.specs.Given as spec;
+ghost use Rattle.pipe_ends.specs.Held as held;
 
-use batch::Piece;
+use batch::{Batch, Piece, join_batches};
+use pipe_parts::{Part, are_kinds};
 use std::alloc::Global;
 use sub_types::{Fault, NoMemory, Ty};
 
-/// The fault of the first piece that ends in one.
-pub fn end_of(pieces: &[Piece]) -> Option<Fault>
-    ensures { result ≡ (stream_of pieces.now).end }
+/// The fault of the first part that ends in one.
+pub(crate) fn end_among(parts: &[Part]) -> Option<Fault>
+    ensures { result ≡ held.end_among parts.now }
 {
-    for piece in pieces {
-        if piece.end.is_some() {
-            return piece.end;
+    for part in parts {
+        let end = end_in(part);
+        if end.is_some() {
+            return end;
         }
     }
     None
 }
 
-/// Whether pieces end in a fault.
-pub(crate) fn is_broken(pieces: &[Piece]) -> bool
-    ensures { result ≡ is_some (stream_of pieces.now).end }
+fn end_in(part: &Part) -> Option<Fault>
+    ensures { result ≡ held.end_in part.now }
 {
-    end_of(pieces).is_some()
+    match part {
+        Part::Rows(piece) => piece.end,
+        Part::Built(_, end) => *end,
+        Part::Groups(_) | Part::Sets(_) => None,
+    }
 }
 
-/// The fault that pieces of these types end in, and none of their rows: a piece without rows, or no piece where none ends in a
-/// fault. It is what a pipeline that builds a table gathers.
-pub fn end_alone(alloc: Global, types: &[Ty], pieces: &[Piece]) -> Result<Vec<Piece>, NoMemory>
-    requires typed { All (λ piece. types_of piece.batch ≡ types.now) pieces.now }
-    ensures stream { IfOk result (λ out. stream_of out.items ≡ ended (stream_of pieces.now).end) }
+/// No rows of these types, and this end: a piece without rows, or no piece where there is no fault. It is what a pipeline that builds
+/// a table gathers. Types of decimals that stand in no plan are `NoMemory`.
+pub fn ended_alone(alloc: Global, types: &[Ty], end: Option<Fault>) -> Result<Vec<Piece>, NoMemory>
+    ensures stream { IfOk result (λ out. stream_of out.items ≡ ended end) }
     ensures typed { IfOk result (λ out. All (λ piece. types_of piece.batch ≡ types.now) out.items) }
     ensures fit { IfOk result (λ out. All (λ piece. IsFit piece.batch) out.items) }
 {
-    for piece in pieces {
-        if piece.end.is_some() {
-            return one_piece(alloc, without_rows(alloc, piece)?);
-        }
+    if end.is_none() {
+        return Ok(Vec::new(alloc));
     }
-    Ok(Vec::new(alloc))
+    let batch = no_rows(alloc, types)?;
+    let out = one_piece(alloc, Piece { batch, end })?;
+    Ok(out)
 }
 
-// The end of a piece, and none of its rows.
-fn without_rows(alloc: Global, piece: &Piece) -> Result<Piece, NoMemory>
-    ensures rows { IfOk result (λ out. rows_of out.batch ≡ []) }
-    ensures types { IfOk result (λ out. types_of out.batch ≡ types_of piece.now.batch) }
-    ensures end { IfOk result (λ out. out.end ≡ piece.now.end) }
+// A batch of these types without rows.
+fn no_rows(alloc: Global, types: &[Ty]) -> Result<Batch, NoMemory>
+    ensures rows { IfOk result (λ batch. rows_of batch ≡ []) }
+    ensures types { IfOk result (λ batch. types_of batch ≡ types.now) }
 {
-    let batch = piece.batch.slice(alloc, 0, 0)?;
-    Ok(Piece {
-        batch,
-        end: piece.end,
-    })
+    if !are_kinds(types) {
+        return Err(NoMemory);
+    }
+    join_batches(alloc, types, &[])
 }
 
 /// A piece alone.

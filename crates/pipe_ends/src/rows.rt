@@ -1,4 +1,4 @@
-// Batches as pieces.
+// Batches as pieces, and the batches of pieces.
 ghost use Rattle.std.specs.Prelude.{◌≡◌, None, map, All, IfOk};
 
 use batch::{Batch, Piece};
@@ -15,4 +15,11 @@ pub(crate) fn pieces_of(alloc: Global, batches: Vec<Batch>) -> Result<Vec<Piece>
         pieces.push(Piece { batch, end: None })?;
     }
     Ok(pieces)
+}
+
+/// The batches of pieces.
+pub(crate) fn batches_of(alloc: Global, pieces: Vec<Piece>) -> Result<Vec<Batch>, NoMemory>
+    ensures { IfOk result (λ batches. batches.items ≡ map (λ piece. piece.batch) pieces.items) }
+{
+    Ok(pieces.into_iter().map(|piece| piece.batch).collect(alloc)?)
 }

@@ -7,8 +7,8 @@ ghost use Rattle.pipe_steps.specs.Ready.{IsFit};
 ghost use Rattle.pipe_ends.specs.Given.{AreSetInputs};
 
 use crate::ends::up_to_fault;
-use crate::kinds::are_kinds;
 use batch::Piece;
+use pipe_parts::are_kinds;
 use plan_typed::SetOp;
 use set_rels::set_op;
 use std::alloc::Global;

@@ -1,4 +1,4 @@
--- What comes through steps is an input of others, and which steps a pipeline has.
+-- The parts of what comes through steps, and which steps a pipeline has.
 use Rattle.std.proofs.Common.{◌≡◌, ◌∙◌, ◌-◌, ℕ, List, [], ◌∷◌, Bool, true, false, Option, Some, ◌==◌, length, take, drop, sym, ap, ap₂, subst, arith, if◌then◌else◌}
 use Rattle.std.specs.Prelude.{IfSome, MatchOption}
 use Rattle.std.specs.List.{All, AllByRecursion}
@@ -7,18 +7,19 @@ use Rattle.std.proofs.lemmas.List.Elements.{All-weaker, recursion_from_All}
 use Rattle.sub_types.specs.declared.kind.Ty.{Ty}
 use Rattle.sub_types.specs.Stream.{Stream}
 use Rattle.batch.specs.declared.batch.Piece.{Piece}
-use Rattle.batch.specs.BatchRows.{types_of}
 use Rattle.plan_typed.specs.declared.rel.Source.{Source}
 use Rattle.plan_denote.specs.Rows.{Row}
+use Rattle.plan_pipes.specs.declared.pipe.Breaker.{Breaker}
 use Rattle.plan_pipes.specs.declared.pipe.Step.{Step}
 use Rattle.plan_pipes.specs.Run.{through}
 use Rattle.plan_pipes.specs.RowMeaning.{row_steps}
 use Rattle.pipe_types.specs.Exact.{exact_steps}
-use Rattle.pipe_types.specs.Over.{AreStepsOver}
+use Rattle.pipe_types.specs.Over.{AreStepsOver, IsBreakerOver}
 use Rattle.pipe_steps.specs.Behind.{IsStored}
-use Rattle.pipe_steps.specs.Ready.{IsFit}
 use Rattle.pipe_steps.specs.Tables.{joins_of, tables_seen}
 use Rattle.pipe_steps.specs.declared.built.BuiltTable.{BuiltTable}
+use Rattle.pipe_parts.specs.Parts.{ArePartsOf}
+use Rattle.pipe_parts.specs.declared.part.Part.{Part}
 use Rattle.pipe_ends.specs.Given.{IsInput}
 use Rattle.pipe_work.specs.Pipe.{StepsSeen}
 use Rattle.cut_laws.specs.Found.{ReadRel, read_at}
@@ -27,29 +28,32 @@ use Rattle.read_laws.specs.Typed.{IsTypedRead}
 use Rattle.open_blocks.specs.Files.{FilesSeen, AreOpenFor}
 use Rattle.pipe_flows.specs.Inputs.{IsOpenFor, told_by}
 
--- an input may go through steps, and what came through some is an input
+-- an input may go through steps
 pub input_stored : (types : List Ty) (pieces : List Piece) → IsInput types pieces → All (IsStored types) pieces
 input_stored types pieces is = λ i d below. record { typed = is.typed i d below; fit = is.fit i d below }
 
-pub stored_input : (types own : List Ty) (pieces : List Piece) → own ≡ types → All (IsStored types) pieces → IsInput own pieces
-stored_input types own pieces same stored = subst (λ (all : List Ty). IsInput all pieces) (sym same) (record {
-  typed = All-weaker (IsStored types) (λ (piece : Piece). types_of piece.batch ≡ types) (λ piece is. is.typed) pieces stored;
-  fit = All-weaker (IsStored types) (λ (piece : Piece). IsFit piece.batch) (λ piece is. is.fit) pieces stored;
-})
+-- parts that are stored with types by another name
+pub parts_as : (breaker : Breaker) (types own : List Ty) (rows : Stream Row) (parts : List Part) → own ≡ types → ArePartsOf breaker types rows parts → ArePartsOf breaker own rows parts
+parts_as breaker types own rows parts same are = subst (λ (all : List Ty). ArePartsOf breaker all rows parts) (sym same) are
 
 -- the steps of a pipeline over these types
-abbrev pub steps_seen : List Step → List BuiltTable → List Ty → StepsSeen
-steps_seen steps tables types = record { steps = steps; tables = tables; types = types }
+abbrev pub steps_seen : List Step → List BuiltTable → List Ty → Breaker → StepsSeen
+steps_seen steps tables types breaker = record { steps = steps; tables = tables; types = types; breaker = breaker }
 
-pub steps_over : (pipe : StepsSeen) (steps : List Step) (tables : List BuiltTable) (own types : List Ty) → pipe ≡ steps_seen steps tables own → own ≡ types → pipe ≡ steps_seen steps tables types
-steps_over pipe steps tables own types is same = subst (λ (all : List Ty). pipe ≡ steps_seen steps tables all) same is
+pub steps_over : (pipe : StepsSeen) (steps : List Step) (tables : List BuiltTable) (own types : List Ty) (breaker : Breaker) → pipe ≡ steps_seen steps tables own breaker → own ≡ types → pipe ≡ steps_seen steps tables types breaker
+steps_over pipe steps tables own types breaker is same = subst (λ (all : List Ty). pipe ≡ steps_seen steps tables all breaker) same is
 
 -- the steps behind the first
 pub rest_is : (steps : List Step) → take (length steps - 1) (drop 1 steps) ≡ drop 1 steps
 rest_is steps = take_all (length steps - 1) (drop 1 steps) (omega (arith, length-drop 1 steps))
 
-pub steps_behind : (pipe : StepsSeen) (steps : List Step) (tables : List BuiltTable) (own types : List Ty) → pipe ≡ steps_seen (take (length steps - 1) (drop 1 steps)) tables own → own ≡ types → pipe ≡ steps_seen (drop 1 steps) tables types
-steps_behind pipe steps tables own types is same = is ∙ ap₂ (λ (all : List Step) (ts : List Ty). steps_seen all tables ts) (rest_is steps) same
+pub steps_behind : (pipe : StepsSeen) (steps : List Step) (tables : List BuiltTable) (own types : List Ty) (breaker : Breaker) → pipe ≡ steps_seen (take (length steps - 1) (drop 1 steps)) tables own breaker → own ≡ types → pipe ≡ steps_seen (drop 1 steps) tables types breaker
+steps_behind pipe steps tables own types breaker is same = is ∙ ap₂ (λ (all : List Step) (ts : List Ty). steps_seen all tables ts breaker) (rest_is steps) same
+
+pub breaker_behind : (steps : List Step) (tables : List BuiltTable) (own given types : List Ty) (breaker : Breaker) → own ≡ given → through exact_steps (joins_of tables) (drop 1 steps) given ≡ through exact_steps (joins_of tables) steps types
+    → IsBreakerOver (through exact_steps (joins_of tables) steps types) breaker → IsBreakerOver (through exact_steps (joins_of tables) (take (length steps - 1) (drop 1 steps)) own) breaker
+breaker_behind steps tables own given types breaker is same over =
+    subst (λ (ts : List Ty). IsBreakerOver ts breaker) (sym (ap₂ (λ (all : List Step) (ts : List Ty). through exact_steps (joins_of tables) all ts) (rest_is steps) is ∙ same)) over
 
 -- a read relation that is found
 found_where : (one read : ReadRel) (found : Option ReadRel) (test : Bool) → IsTypedRead one → (found ≡ Some read → IsTypedRead read) → (if test then Some one else found) ≡ Some read → IsTypedRead read
@@ -78,6 +82,9 @@ module _ (steps : List Step) (own tables : List BuiltTable) (given types : List 
 
   pub types_as : given ≡ types → through exact_steps (joins_of own) steps given ≡ through exact_steps (joins_of tables) steps types
   types_as is = ap (λ (all : List BuiltTable). through exact_steps (joins_of all) steps given) same ∙ ap (through exact_steps (joins_of tables) steps) is
+
+  pub breaker_as : (breaker : Breaker) → given ≡ types → IsBreakerOver (through exact_steps (joins_of tables) steps types) breaker → IsBreakerOver (through exact_steps (joins_of own) steps given) breaker
+  breaker_as breaker is over = subst (λ (ts : List Ty). IsBreakerOver ts breaker) (sym (types_as is)) over
 
   pub rows_as : (stream other : Stream Row) → stream ≡ other → through row_steps (tables_seen own) steps stream ≡ through row_steps (tables_seen tables) steps other
   rows_as stream other is = ap (λ (all : List BuiltTable). through row_steps (tables_seen all) steps stream) same ∙ ap (through row_steps (tables_seen tables) steps) is

@@ -1,3 +1,3 @@
 mod BodyLaws
-mod FlowLaws
+pub mod FlowLaws
 mod ReceiptLaws

@@ -5,7 +5,7 @@ use Rattle.plan_typed.specs.declared.rel.Source.{Source}
 use Rattle.plan_typed.specs.declared.rel.Source.TheVariants as sources
 use Rattle.cut_laws.specs.Found.{ReadRel, read_at}
 use Rattle.open_blocks.specs.Files.{FilesSeen}
-use Rattle.read_rounds.specs.Bodies.{HaveRead}
+pub use Rattle.read_rounds.specs.Bodies.{HaveRead, reads_made}
 
 -- the bodies of its files were read once; a source in the plan reads none
 abbrev pub HaveReadFrom : Source → List FilesSeen → ℕ → List (List (Option Reads)) → List (List (Option Reads)) → Type 0

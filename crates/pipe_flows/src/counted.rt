@@ -1,5 +1,5 @@
 // What comes through steps behind a read relation, with its receipt.
-ghost use Rattle.std.specs.Prelude.{◌≡◌, ◌∷◌, [], List, IfOk, OnOk, map, vec_len};
+ghost use Rattle.std.specs.Prelude.{◌≡◌, ◌∷◌, [], IfOk, OnOk, map, vec_len};
 ghost use Rattle.std.specs.List.{All};
 ghost use Rattle.sub_types.specs.Stream.{Stream};
 ghost use Rattle.world.specs.Counts.{HasCause};
@@ -9,6 +9,7 @@ ghost use Rattle.plan_pipes.specs.RowMeaning.{row_steps};
 ghost use Rattle.pipe_types.specs.Exact.{exact_steps};
 ghost use Rattle.pipe_steps.specs.Tables.{joins_of, tables_seen};
 ghost use Rattle.set_rels.specs.Inputs.{stream_of};
+ghost use Rattle.pipe_parts.specs.Parts.{ArePartsOf};
 ghost use Rattle.pipe_ends.specs.Given.{IsInput};
 ghost use Rattle.open_blocks.specs.Files.{AreOpenFor, faults_of, files_at, files_seen};
 ghost use Rattle.open_blocks.specs.Taken.{Adds};
@@ -16,10 +17,10 @@ ghost use Rattle.read_rounds.specs.Bodies.{HaveRead, reads_made};
 ghost use Rattle.read_rounds.specs.Told.{TellsRows, blocks_at};
 ghost use Rattle.pipe_flows.specs.Receipts.{IsReceiptOf};
 
+use crate::flowed::Flowed;
 use crate::receipts::add_receipt;
 use batch::Piece;
 use open_blocks::ReadFiles;
-use pipe_feeds::Through;
 use pipe_steps::types_through;
 use pipe_work::PipeSteps;
 use read_rounds::{Crew, FeedRound, pass_pieces, read_named};
@@ -31,7 +32,7 @@ use std::thread::Threads;
 use sub_types::NoMemory;
 use world::{FolderError, Gate, Reader};
 
-/// What comes through steps behind the pieces of a read relation.
+/// What is kept of what comes through steps behind the pieces of a read relation.
 pub(crate) fn pass_counted<H: Threads + Wait + Sync, G: Gate>(
     crew: &Crew<'_, H, G>,
     alloc: Global,
@@ -39,29 +40,28 @@ pub(crate) fn pass_counted<H: Threads + Wait + Sync, G: Gate>(
     relation: u32,
     pieces: Vec<Piece>,
     receipts: &mut Vec<PipeReceipt>,
-) -> Result<Through, NoMemory>
+) -> Result<Flowed, NoMemory>
     requires input { IsInput pipe.now.types pieces.items }
     ensures stored { IfOk result (λ given. given.types.items ≡ through exact_steps (joins_of pipe.now.tables) pipe.now.steps pipe.now.types) }
-    ensures input { IfOk result (λ given. IsInput given.types.items given.pieces.items) }
-    ensures rows { IfOk result (λ given. stream_of given.pieces.items ≡ through row_steps (tables_seen pipe.now.tables) pipe.now.steps (stream_of pieces.items)) }
+    ensures parts { IfOk result (λ given. ArePartsOf pipe.now.breaker given.types.items (through row_steps (tables_seen pipe.now.tables) pipe.now.steps (stream_of pieces.items)) given.parts.items) }
     ensures receipts { OnOk result (Adds (IsReceiptOf crew.now.workers) ((relation, vec_len pieces) ∷ []) receipts.old.items receipts.new.items) }
 {
     let stored = types_through(alloc, pipe.steps, pipe.tables, pipe.types)?;
     let round = pass_pieces(crew, alloc, pipe, pieces)?;
     let FeedRound {
-        pieces,
+        parts,
         batches,
         receipts: workers,
         left,
     } = round;
     add_receipt(receipts, relation, batches, left, workers)?;
-    Ok(Through {
-        pieces,
+    Ok(Flowed {
+        parts,
         types: stored,
     })
 }
 
-/// What comes through steps behind the files of a read relation.
+/// What is kept of what comes through steps behind the files of a read relation.
 pub(crate) fn read_counted<H: Threads + Wait + Sync, R: Reader + Send, G: Gate>(
     crew: &Crew<'_, H, G>,
     alloc: Global,
@@ -69,12 +69,11 @@ pub(crate) fn read_counted<H: Threads + Wait + Sync, R: Reader + Send, G: Gate>(
     relation: u32,
     files: &mut Vec<ReadFiles<R>>,
     receipts: &mut Vec<PipeReceipt>,
-) -> Result<Through, FolderError>
+) -> Result<Flowed, FolderError>
     requires open { All (λ one. one.relation ≡ relation → AreOpenFor pipe.now.types one) (map (files_seen R.bytes) files.old.items) }
     ensures stored { IfOk result (λ given. given.types.items ≡ through exact_steps (joins_of pipe.now.tables) pipe.now.steps pipe.now.types) }
-    ensures input { IfOk result (λ given. IsInput given.types.items given.pieces.items) }
-    ensures rows { IfOk result (λ given. (input : Stream Row) × TellsRows (files_at relation (map (files_seen R.bytes) files.old.items)) input
-        × (stream_of given.pieces.items ≡ through row_steps (tables_seen pipe.now.tables) pipe.now.steps input)) }
+    ensures parts { IfOk result (λ given. (input : Stream Row) × TellsRows (files_at relation (map (files_seen R.bytes) files.old.items)) input
+        × ArePartsOf pipe.now.breaker given.types.items (through row_steps (tables_seen pipe.now.tables) pipe.now.steps input) given.parts.items) }
     ensures receipts { OnOk result (Adds (IsReceiptOf crew.now.workers) ((relation, blocks_at (files_at relation (map (files_seen R.bytes) files.old.items))) ∷ []) receipts.old.items receipts.new.items) }
     ensures reads { OnOk result (HaveRead relation (map (files_seen R.bytes) files.old.items) (reads_made R.reads files.old.items) (reads_made R.reads files.new.items)) }
     ensures seen { map (files_seen R.bytes) files.new.items ≡ map (files_seen R.bytes) files.old.items }
@@ -83,14 +82,14 @@ pub(crate) fn read_counted<H: Threads + Wait + Sync, R: Reader + Send, G: Gate>(
     let stored = types_through(alloc, pipe.steps, pipe.tables, pipe.types)?;
     let round = read_named(crew, alloc, pipe, relation, files)?;
     let FeedRound {
-        pieces,
+        parts,
         batches,
         receipts: workers,
         left,
     } = round;
     add_receipt(receipts, relation, batches, left, workers)?;
-    Ok(Through {
-        pieces,
+    Ok(Flowed {
+        parts,
         types: stored,
     })
 }

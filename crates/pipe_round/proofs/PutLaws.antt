@@ -1,10 +1,10 @@
--- What the pieces that count give, one after the other, and what comes behind them.
+-- What the pieces that count give, one after the other, what comes behind them, and what is kept of both.
 use Rattle.std.proofs.Common.{◌≡◌, ◌∙◌, List, [], ◌∷◌, ◌++◌, inl, inr, Bool, Option, Some, None, map, refl, sym, ap, subst, append_assoc}
 use Rattle.std.specs.Prelude.{IsSome}
 use Rattle.std.specs.List.{All}
 use Rattle.std.proofs.lemmas.List.{append-nil, map-append}
 use Rattle.std.proofs.lemmas.Simd.{map-map}
-use Rattle.std.proofs.lemmas.List.Elements.{All-nil, All-cons}
+use Rattle.std.proofs.lemmas.List.Elements.{All-nil, All-cons, All-append}
 use Rattle.sub_types.specs.declared.fault.Fault.{Fault}
 use Rattle.sub_types.specs.Stream.{Stream, followed_by, glue}
 use Rattle.sub_types.proofs.StreamLaws.{glue-append}
@@ -19,10 +19,14 @@ use Rattle.plan_pipes.proofs.PiecesLaws.{finished-same, marks_through-append, pi
 use Rattle.pipe_types.specs.Exact.{exact_steps}
 use Rattle.pipe_steps.specs.Behind.{IsStored}
 use Rattle.pipe_steps.specs.Tables.{joins_of, tables_seen}
+use Rattle.pipe_parts.specs.declared.part.Part.{Part}
+use Rattle.pipe_parts.specs.Parts.{AreParts, ArePartsOf}
+use Rattle.pipe_work.specs.declared.kept.Kept.{Kept}
 use Rattle.pipe_work.specs.declared.passed.Passed.{Passed}
 use Rattle.pipe_work.specs.Pipe.{StepsSeen}
+use Rattle.pipe_work.proofs.KeptLaws.{parts-append}
 use Rattle.pipe_round.specs.Merged.{merged_all}
-use Rattle.pipe_round.specs.Settled.{ArePut}
+use Rattle.pipe_round.specs.Settled.{ArePut, AreKept, HavePut}
 
 -- ---- marks that agree
 
@@ -111,7 +115,7 @@ module _ (pipe : StepsSeen) where
   pieces_given : (made : List Passed) → map stream_of_piece (map (λ (one : Passed). one.piece) made) ≡ map given made
   pieces_given made = map-map stream_of_piece (λ (one : Passed). one.piece) made
 
-  pub stream_some : (input : List (Stream Row)) (made : List Passed) (end : Option Fault) (out : List Piece) → IsSome end → ArePut pipe input made end → out ≡ map (λ one. one.piece) made
+  stream_some : (input : List (Stream Row)) (made : List Passed) (end : Option Fault) (out : List Piece) → IsSome end → ArePut pipe input made end → out ≡ map (λ one. one.piece) made
       → glue (map stream_of_piece out) ≡ through row_steps (tables_seen pipe.tables) pipe.steps (glue input)
   stream_some input made end out some put is =
       let tables = tables_seen pipe.tables in
@@ -119,7 +123,7 @@ module _ (pipe : StepsSeen) where
       ∙ sym (given_some input made end some put (finished tables pipe.steps (marks_through tables pipe.steps input)))
       ∙ sym (pieces_combine tables pipe.steps input)
 
-  pub stream_all : (input : List (Stream Row)) (made : List Passed) (none marks : List (List Bool)) (out last : List Piece) → ArePut pipe input made None
+  stream_all : (input : List (Stream Row)) (made : List Passed) (none marks : List (List Bool)) (out last : List Piece) → ArePut pipe input made None
       → none ≡ marks_through (tables_seen pipe.tables) pipe.steps [] → marks ≡ merged_all none (map (λ one. one.marks.items) made)
       → glue (map stream_of_piece last) ≡ glue (finished (tables_seen pipe.tables) pipe.steps marks) → out ≡ map (λ one. one.piece) made ++ last
       → glue (map stream_of_piece out) ≡ through row_steps (tables_seen pipe.tables) pipe.steps (glue input)
@@ -138,7 +142,7 @@ module _ (pipe : StepsSeen) where
       ∙ ap (λ pieces. glue (pieces ++ behind)) (sym (given_all input made put))
       ∙ sym (pieces_combine tables pipe.steps input)
 
-  pub stored_all : (input : List (Stream Row)) (made : List Passed) (end : Option Fault) → ArePut pipe input made end → All (IsStored (through exact_steps (joins_of pipe.tables) pipe.steps pipe.types)) (map (λ (one : Passed). one.piece) made)
+  stored_all : (input : List (Stream Row)) (made : List Passed) (end : Option Fault) → ArePut pipe input made end → All (IsStored (through exact_steps (joins_of pipe.tables) pipe.steps pipe.types)) (map (λ (one : Passed). one.piece) made)
   stored_all input [] end put = All-nil (IsStored (through exact_steps (joins_of pipe.tables) pipe.steps pipe.types))
   stored_all [] (one ∷ made) end put = absurd put
   stored_all (piece ∷ input) (one ∷ made) end put =
@@ -147,3 +151,46 @@ module _ (pipe : StepsSeen) where
         | inl next ↦ All-cons P one.piece (map (λ (one : Passed). one.piece) made) put.0.stored (stored_all input made end next.1)
         | inr last ↦ All-cons P one.piece (map (λ (one : Passed). one.piece) made) put.0.stored (subst (λ (more : List Passed). All P (map (λ (one : Passed). one.piece) more)) (sym last.1) (All-nil P))
       ]
+
+  -- ---- what is kept
+
+  abbrev part_in : Kept → Part
+  part_in own = own.part
+
+  parts_kept : (made : List Passed) (kept : List Kept) → AreKept pipe.breaker made kept → AreParts pipe.breaker (map (λ (one : Passed). one.piece) made) (map part_in kept)
+  parts_kept [] [] are = tt
+  parts_kept [] (own ∷ kept) are = absurd are
+  parts_kept (one ∷ made) [] are = absurd are
+  parts_kept (one ∷ made) (own ∷ kept) are = (are.0.0, parts_kept made kept are.1)
+
+  marks_kept : (made : List Passed) (kept : List Kept) → AreKept pipe.breaker made kept → map (λ (own : Kept). own.marks.items) kept ≡ map (λ (one : Passed). one.marks.items) made
+  marks_kept [] [] are = refl
+  marks_kept [] (own ∷ kept) are = absurd are
+  marks_kept (one ∷ made) [] are = absurd are
+  marks_kept (one ∷ made) (own ∷ kept) are = λ i. are.0.1 i ∷ marks_kept made kept are.1 i
+
+  pub parts_some : (input : List (Stream Row)) (kept : List Kept) (end : Option Fault) (out : List Part) → IsSome end → HavePut pipe input kept end → out ≡ map (λ (one : Kept). one.part) kept
+      → ArePartsOf pipe.breaker (through exact_steps (joins_of pipe.tables) pipe.steps pipe.types) (through row_steps (tables_seen pipe.tables) pipe.steps (glue input)) out
+  parts_some input kept end out some put is =
+      let pieces = map (λ (one : Passed). one.piece) put.made in
+      record {
+        pieces = pieces;
+        kept = subst (AreParts pipe.breaker pieces) (sym is) (parts_kept put.made kept put.are_kept);
+        stored = stored_all input put.made end put.put;
+        rows_are = stream_some input put.made end pieces some put.put refl;
+      }
+
+  pub parts_all : (input : List (Stream Row)) (kept : List Kept) (none marks : List (List Bool)) (out last : List Part) → HavePut pipe input kept None
+      → none ≡ marks_through (tables_seen pipe.tables) pipe.steps [] → marks ≡ merged_all none (map (λ (one : Kept). one.marks.items) kept)
+      → ArePartsOf pipe.breaker (through exact_steps (joins_of pipe.tables) pipe.steps pipe.types) (glue (finished (tables_seen pipe.tables) pipe.steps marks)) last → out ≡ map (λ (one : Kept). one.part) kept ++ last
+      → ArePartsOf pipe.breaker (through exact_steps (joins_of pipe.tables) pipe.steps pipe.types) (through row_steps (tables_seen pipe.tables) pipe.steps (glue input)) out
+  parts_all input kept none marks out last put first merged behind is =
+      let P : Piece → Type 0 = IsStored (through exact_steps (joins_of pipe.tables) pipe.steps pipe.types) in
+      let pieces = map (λ (one : Passed). one.piece) put.made in
+      record {
+        pieces = pieces ++ behind.pieces;
+        kept = subst (AreParts pipe.breaker (pieces ++ behind.pieces)) (sym is)
+            (parts-append pipe.breaker pieces behind.pieces (map part_in kept) last (parts_kept put.made kept put.are_kept) behind.kept);
+        stored = All-append P pieces behind.pieces (stored_all input put.made None put.put) behind.stored;
+        rows_are = stream_all input put.made none marks (pieces ++ behind.pieces) behind.pieces put.put first (merged ∙ ap (merged_all none) (marks_kept put.made kept put.are_kept)) behind.rows_are refl;
+      }

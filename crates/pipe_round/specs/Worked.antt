@@ -4,11 +4,11 @@ use Rattle.std.specs.Borrow.{Bor}
 use Rattle.round_end.specs.declared.outcome.Outcome.{Outcome}
 use Rattle.piece_source.specs.Pieces.{IsPieceAt}
 use Rattle.pipe_work.specs.declared.held.HeldPiece.{HeldPiece}
-use Rattle.pipe_work.specs.declared.passed.Passed.{Passed}
+use Rattle.pipe_work.specs.declared.kept.Kept.{Kept}
 use Rattle.pipe_work.specs.Held.{IsMadeOf}
 
--- what its steps made of the piece at the number
-pub record IsMadeAt (pieces : List HeldPiece) (number : ℕ) (made : Outcome Passed) : Type 0 where
+-- what was made of the piece at the number
+pub record IsMadeAt (pieces : List HeldPiece) (number : ℕ) (made : Outcome Kept) : Type 0 where
   pub given : Option (Bor HeldPiece)
   pub at : IsPieceAt pieces number given
   pub made_of : IsMadeOf given made

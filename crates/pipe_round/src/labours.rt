@@ -4,7 +4,7 @@ ghost use Rattle.pipe_round.specs.Unused.{IsUnused};
 
 use piece_source::PieceSource;
 use pipe_labour::PipeLabour;
-use pipe_work::{HeldPiece, Passed, PieceWork};
+use pipe_work::{HeldPiece, Kept, PieceWork};
 use round_end::Outcome;
 use std::alloc::Global;
 use sub_types::NoMemory;
@@ -12,7 +12,7 @@ use sub_types::NoMemory;
 pub(crate) type PieceLabour<'l, 'p, 's> = PipeLabour<
     PieceSource<'l, HeldPiece<'p, 's>>,
     PieceWork,
-    Outcome<Passed>,
+    Outcome<Kept>,
 >;
 
 // A labour over the pieces that has read and made nothing.

@@ -1,6 +1,7 @@
 //! A pipeline's input in pieces, worked by many workers: each piece goes through the steps by itself, whatever the workers' turns are,
-//! and what they give is put together in the order of the pieces, with the right rows that no piece matched behind them. It stands on
-//! `pipe_work`, `crew_round`, `piece_source` and `round_end`. Its meaning stands in its own `specs/` and in `plan_pipes/specs/`.
+//! and what is kept of what they give is put together in the order of the pieces, with that of the right rows that no piece matched behind
+//! them. It stands on `pipe_work`, `pipe_parts`, `crew_round`, `piece_source` and `round_end`. Its meaning stands in its own `specs/`, in
+//! `plan_pipes/specs/` and in `pipe_parts/specs/`.
 #![tactic(auto)]
 
 mod labours;

@@ -1,11 +1,11 @@
-// The marks of many pieces, put together.
+// What is kept of many pieces, put together.
 ghost use Rattle.std.specs.Prelude.{◌≡◌, ◌++◌, All, OnOk, length, map};
 ghost use Rattle.plan_pipes.specs.Pieces.{merged_each};
 ghost use Rattle.pipe_round.specs.Merged.{HaveSameRows, merged_all};
 
-use batch::Piece;
 use hash_join::Marks;
-use pipe_work::Passed;
+use pipe_parts::Part;
+use pipe_work::Kept;
 use sub_types::NoMemory;
 
 // Marks what either marks, step by step.
@@ -19,21 +19,21 @@ fn merge_each(marks: &mut [Marks], others: &[Marks])
     }
 }
 
-/// Adds the pieces in order, and marks what any of them marks.
-pub(crate) fn add_passed(
-    passed: Vec<Passed>,
+/// Adds the parts in order, and marks what any of the pieces marks.
+pub(crate) fn add_kept(
+    kept: Vec<Kept>,
     marks: &mut [Marks],
-    out: &mut Vec<Piece>,
+    out: &mut Vec<Part>,
 ) -> Result<(), NoMemory>
-    requires rows { All (HaveSameRows marks.old) passed.items }
-    ensures pieces { OnOk result (out.new.items ≡ out.old.items ++ map (λ one. one.piece) passed.items) }
-    ensures marks { OnOk result (marks.new ≡ merged_all marks.old (map (λ one. one.marks.items) passed.items)) }
+    requires rows { All (HaveSameRows marks.old) kept.items }
+    ensures parts { OnOk result (out.new.items ≡ out.old.items ++ map (λ one. one.part) kept.items) }
+    ensures marks { OnOk result (marks.new ≡ merged_all marks.old (map (λ one. one.marks.items) kept.items)) }
     ensures rows { map length marks.new ≡ map length marks.old }
 {
-    for one in passed {
-        let Passed { piece, marks: own } = one;
+    for one in kept {
+        let Kept { part, marks: own } = one;
         merge_each(marks, &own);
-        out.push(piece)?;
+        out.push(part)?;
     }
     Ok(())
 }

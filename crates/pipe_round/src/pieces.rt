@@ -7,8 +7,8 @@ ghost use Rattle.batch.specs.BatchRows.{stream_of_piece};
 ghost use Rattle.plan_pipes.specs.Run.{through};
 ghost use Rattle.plan_pipes.specs.RowMeaning.{row_steps};
 ghost use Rattle.pipe_types.specs.Exact.{exact_steps};
-ghost use Rattle.pipe_steps.specs.Behind.{IsStored};
 ghost use Rattle.pipe_steps.specs.Tables.{joins_of, tables_seen};
+ghost use Rattle.pipe_parts.specs.Parts.{ArePartsOf};
 ghost use Rattle.pipe_round.specs.Worked.{IsMadeAt};
 
 use crate::labours::labours_over;
@@ -16,7 +16,7 @@ use crate::round::PipeRound;
 use crate::together::settle_pieces;
 use crew_round::{Round, run_round};
 use pipe_labour::Item;
-use pipe_work::{HeldPiece, Passed, PipeSteps};
+use pipe_work::{HeldPiece, Kept, PipeSteps};
 use round_end::Outcome;
 use std::alloc::Global;
 use std::sync::Wait;
@@ -24,8 +24,8 @@ use std::thread::Threads;
 use sub_types::NoMemory;
 use world::Gate;
 
-/// What the steps give over all pieces, up to the first fault, worked by so many workers, whatever their turns are. Each piece is
-/// claimed once.
+/// What is kept for the pipeline's breaker of what the steps give over all pieces, up to the first fault, worked by so many workers,
+/// whatever their turns are. Each piece is claimed once.
 pub fn run_pieces<H: Threads + Wait + Sync, G: Gate>(
     rt: &H,
     alloc: Global,
@@ -42,10 +42,9 @@ pub fn run_pieces<H: Threads + Wait + Sync, G: Gate>(
     ensures workers { IfOk result (λ r. vec_len r.receipts ≡ workers) }
     ensures balanced { IfOk result (λ r. IsBalanced (length pieces.now) (map lists_of r.receipts.items) r.left.items) }
 
-    // What is given is what the steps give over the whole input, and may go through further steps.
-    ensures stream { IfOk result (λ r. glue (map stream_of_piece r.pieces.items)
-        ≡ through row_steps (tables_seen pipe.now.tables) pipe.now.steps (glue (map (λ held. stream_of_piece held.piece) pieces.now))) }
-    ensures stored { IfOk result (λ r. All (IsStored (through exact_steps (joins_of pipe.now.tables) pipe.now.steps pipe.now.types)) r.pieces.items) }
+    // The parts are of what the steps give over the whole input.
+    ensures parts { IfOk result (λ r. ArePartsOf pipe.now.breaker (through exact_steps (joins_of pipe.now.tables) pipe.now.steps pipe.now.types)
+        (through row_steps (tables_seen pipe.now.tables) pipe.now.steps (glue (map (λ held. stream_of_piece held.piece) pieces.now))) r.parts.items) }
 {
     let round = work_pieces(rt, alloc, pieces, workers, gate)?;
     let Round {
@@ -57,20 +56,20 @@ pub fn run_pieces<H: Threads + Wait + Sync, G: Gate>(
         return Err(NoMemory);
     };
     Ok(PipeRound {
-        pieces: given,
+        parts: given,
         receipts,
         left,
     })
 }
 
-// What the steps make of each piece by itself, in order.
+// What is made of each piece by itself, in order.
 fn work_pieces<H: Threads + Wait + Sync, G: Gate>(
     rt: &H,
     alloc: Global,
     pieces: &[HeldPiece],
     workers: u32,
     gate: &G,
-) -> Result<Round<Item<Outcome<Passed>>>, NoMemory>
+) -> Result<Round<Item<Outcome<Kept>>>, NoMemory>
     requires count { length pieces.now ≤ 2 ^ 62 }
     requires workers { (1 ≤ workers) × (workers ≤ 64) }
     ensures workers { IfOk result (λ r. vec_len r.receipts ≡ workers) }

@@ -1,2 +1,3 @@
 pub mod PassedLaws
+pub mod KeptLaws
 pub mod Crosses

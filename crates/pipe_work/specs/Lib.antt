@@ -1,4 +1,5 @@
 pub mod Pipe
 pub mod ReadyProp
 pub mod Passed
+pub mod Kept
 pub mod Held

@@ -1,7 +1,9 @@
 // What comes behind the pieces of a pipeline's input.
+use crate::keeping::parts_of;
 use crate::pipe::PipeSteps;
 use batch::Piece;
 use hash_join::Marks;
+use pipe_parts::Part;
 use pipe_steps::{finish, marks_of};
 use std::alloc::Global;
 use sub_types::NoMemory;
@@ -16,6 +18,7 @@ impl<'a> PipeSteps<'a> {
     ghost use Rattle.pipe_steps.specs.Behind.{IsStored};
     ghost use Rattle.pipe_steps.specs.Marked.{HaveMarks};
     ghost use Rattle.pipe_steps.specs.Tables.{joins_of, tables_seen};
+    ghost use Rattle.pipe_parts.specs.Parts.{ArePartsOf};
 
     /// Marks for each step, with none set.
     pub fn no_marks(&self, alloc: Global) -> Result<Vec<Marks>, NoMemory>
@@ -26,8 +29,19 @@ impl<'a> PipeSteps<'a> {
         Ok(marks)
     }
 
-    /// What comes behind the last piece, by the marks of all pieces.
-    pub fn last_pieces(&self, alloc: Global, marks: &mut [Marks]) -> Result<Vec<Piece>, NoMemory>
+    /// What is kept of what comes behind the last piece, by the marks of all pieces.
+    pub fn last_parts(&self, alloc: Global, marks: &mut [Marks]) -> Result<Vec<Part>, NoMemory>
+        requires { HaveMarks (tables_seen self.now.tables) self.now.steps marks.old }
+        ensures { IfOk result (λ parts. ArePartsOf self.now.breaker (through exact_steps (joins_of self.now.tables) self.now.steps self.now.types)
+            (glue (finished (tables_seen self.now.tables) self.now.steps marks.old)) parts.items) }
+    {
+        let last = self.last_pieces(alloc, marks)?;
+        let parts = parts_of(alloc, self, last)?;
+        Ok(parts)
+    }
+
+    // The pieces that come behind the last.
+    fn last_pieces(&self, alloc: Global, marks: &mut [Marks]) -> Result<Vec<Piece>, NoMemory>
         requires { HaveMarks (tables_seen self.now.tables) self.now.steps marks.old }
         ensures stream { IfOk result (λ out. glue (map stream_of_piece out.items) ≡ glue (finished (tables_seen self.now.tables) self.now.steps marks.old)) }
         ensures stored { IfOk result (λ out. All (IsStored (through exact_steps (joins_of self.now.tables) self.now.steps self.now.types)) out.items) }

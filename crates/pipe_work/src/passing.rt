@@ -2,8 +2,11 @@
 ghost use Rattle.std.specs.Prelude.{◌≡◌, IfOk};
 ghost use Rattle.batch.specs.BatchRows.{rows_of, stream_of_piece, types_of};
 ghost use Rattle.pipe_steps.specs.Ready.{IsReady};
-ghost use Rattle.pipe_work.specs.Passed.{IsPassed, IsWorkedTo};
+ghost use Rattle.pipe_work.specs.Kept.{IsMade};
+ghost use Rattle.pipe_work.specs.Passed.{IsPassed};
 
+use crate::keeping::kept_of;
+use crate::kept::Kept;
 use crate::passed::Passed;
 use crate::pipe::PipeSteps;
 use batch::Piece;
@@ -26,20 +29,18 @@ pub fn pass_alone(alloc: Global, pipe: &PipeSteps, piece: Piece) -> Result<Passe
     })
 }
 
-/// The same as an outcome: made where the steps end in no fault, and else ended by that fault.
-pub fn outcome_of(
-    alloc: Global,
-    pipe: &PipeSteps,
-    piece: Piece,
-) -> Result<Outcome<Passed>, NoMemory>
+/// What is kept of it for the pipeline's breaker, as an outcome: made where the steps end in no fault, and else ended by that fault.
+pub fn outcome_of(alloc: Global, pipe: &PipeSteps, piece: Piece) -> Result<Outcome<Kept>, NoMemory>
     requires types { types_of piece.batch ≡ pipe.now.types }
     requires ready { IsReady pipe.now.steps piece.batch }
-    ensures { IfOk result (IsWorkedTo pipe.now (stream_of_piece piece)) }
+    ensures { IfOk result (IsMade pipe.now (stream_of_piece piece)) }
 {
     let passed = pass_alone(alloc, pipe, piece)?;
-    match passed.piece.end {
-        None => Ok(Outcome::Made(passed)),
-        Some(fault) => Ok(Outcome::Ended(passed, fault)),
+    let end = passed.piece.end;
+    let kept = kept_of(alloc, pipe, passed)?;
+    match end {
+        None => Ok(Outcome::Made(kept)),
+        Some(fault) => Ok(Outcome::Ended(kept, fault)),
     }
 }
 

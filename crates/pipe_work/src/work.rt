@@ -1,22 +1,22 @@
 // What a worker does with a piece in memory.
 ghost use Rattle.std.specs.Prelude.{IfOk};
 ghost use Rattle.batch.specs.BatchRows.{stream_of_piece};
-ghost use Rattle.pipe_work.specs.Passed.{IsWorkedTo};
+ghost use Rattle.pipe_work.specs.Kept.{IsMade};
 
 use crate::held::HeldPiece;
-use crate::passed::Passed;
+use crate::kept::Kept;
 use crate::passing::{copied, outcome_of};
 use pipe_labour::Work;
 use round_end::Outcome;
 use std::alloc::Global;
 use sub_types::NoMemory;
 
-/// Takes a piece that it is lent through the steps that it came with.
+/// Takes a piece that it is lent through the steps that it came with, and keeps what their breaker needs.
 #[derive(Clone, Copy, Debug)]
 pub struct PieceWork;
 
 impl<'l, 'p, 's> Work<Option<&'l HeldPiece<'p, 's>>> for PieceWork {
-    type Made = Outcome<Passed>;
+    type Made = Outcome<Kept>;
 
     type Sense = ();
 
@@ -31,7 +31,7 @@ impl<'l, 'p, 's> Work<Option<&'l HeldPiece<'p, 's>>> for PieceWork {
         alloc: Global,
         _number: u64,
         held: Option<&'l HeldPiece<'p, 's>>,
-    ) -> Result<Outcome<Passed>, NoMemory> {
+    ) -> Result<Outcome<Kept>, NoMemory> {
         match held {
             Some(held) => pass_held(alloc, held),
             None => Ok(Outcome::ReadFault),
@@ -39,9 +39,9 @@ impl<'l, 'p, 's> Work<Option<&'l HeldPiece<'p, 's>>> for PieceWork {
     }
 }
 
-// The steps that a piece came with, over a copy of it.
-fn pass_held(alloc: Global, held: &HeldPiece) -> Result<Outcome<Passed>, NoMemory>
-    ensures { IfOk result (IsWorkedTo held.now.pipe.now (stream_of_piece held.now.piece)) }
+// What is kept of what the steps that a piece came with give for a copy of it.
+fn pass_held(alloc: Global, held: &HeldPiece) -> Result<Outcome<Kept>, NoMemory>
+    ensures { IfOk result (IsMade held.now.pipe.now (stream_of_piece held.now.piece)) }
 {
     let piece = copied(alloc, &held.piece)?;
     let outcome = outcome_of(alloc, held.pipe, piece)?;

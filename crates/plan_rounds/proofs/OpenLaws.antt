@@ -12,7 +12,7 @@ use Rattle.plan_laws.proofs.Levels.{AllReads}
 use Rattle.agree_laws.specs.Agree.{IsOfTypes}
 use Rattle.agree_laws.proofs.TypeLaws.{rels_from_reads}
 use Rattle.open_blocks.specs.Files.{FilesSeen, AreOpenFor}
-use Rattle.pipe_flows.specs.Inputs.{IsOpenFor}
+use Rattle.table_engine.specs.Inputs.{IsOpenFor}
 use Rattle.plan_rounds.specs.Inputs.{IsOpenRead}
 
 -- the files of a read relation are open for the types of its number

@@ -31,7 +31,7 @@ use Rattle.agree_laws.proofs.OrderLaws.{arranged_numbers, law_of_order}
 use Rattle.agree_laws.proofs.TypeLaws.{each_found, law_of_numbers, numbers_of_rels, rels_from_reads}
 use Rattle.open_blocks.specs.Files.{FilesSeen}
 use Rattle.open_blocks.specs.Taken.{Adds}
-use Rattle.pipe_flows.specs.Receipts.{IsReceiptAt, IsReceiptOf, batches_from, batches_read}
+use Rattle.table_engine.specs.Inputs.{IsReceiptAt, IsReceiptOf, batches_from, batches_read}
 use Rattle.run_words.specs.declared.status.PipeReceipt.{PipeReceipt}
 use Rattle.plan_rounds.specs.Inputs.{batches_of, input_read}
 use Rattle.plan_rounds.specs.Known.{AreReceiptsOf, batches_for}

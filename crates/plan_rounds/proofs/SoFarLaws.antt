@@ -33,15 +33,12 @@ use Rattle.agree_laws.proofs.JointLaws.{joint_may, joint_agrees, once_before, re
 use Rattle.agree_laws.proofs.TypeLaws.{each_of_types}
 use Rattle.open_blocks.specs.Files.{FilesSeen, files_at, stream_in}
 use Rattle.open_blocks.specs.Taken.{Adds}
-use Rattle.read_rounds.specs.Told.{TellsRows}
-use Rattle.pipe_flows.specs.Inputs.{told_by}
-use Rattle.pipe_flows.specs.Receipts.{IsReceiptAt, IsReceiptOf}
+use Rattle.table_engine.specs.Inputs.{TellsRows, told_by, IsReceiptAt, IsReceiptOf, AreTablesOf}
 use Rattle.run_words.specs.declared.status.PipeReceipt.{PipeReceipt}
 use Rattle.sub_query.specs.Known.{known_seen, worth_seen}
 use Rattle.sub_query.specs.declared.worth.KnownWorth.{KnownWorth}
 use Rattle.plan_rows.specs.Seen.{all_seen}
 use Rattle.plan_rows.proofs.WorthLaws.{one_more, plan_is, stopped}
-use Rattle.table_engine.specs.Inputs.{AreTablesOf}
 use Rattle.plan_rounds.specs.Inputs.{AreRowsOf, IsOpenRead, IsWorthOf, input_read}
 use Rattle.plan_rounds.specs.Known.{AreReceiptsOf, AreWorths}
 use Rattle.plan_rounds.specs.Ready.{IsReady}

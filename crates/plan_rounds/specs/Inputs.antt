@@ -1,10 +1,9 @@
 -- The open files of a plan's read relations, and how many batches each is read in.
-use Rattle.std.specs.Prelude.{◌≡◌, ℕ, ◌+◌, ◌/◌, List}
+use Rattle.std.specs.Prelude.{◌≡◌, ℕ, ◌+◌, ◌/◌, List, Result}
 use Rattle.std.specs.List.{AllByRecursion}
 use Rattle.sub_types.specs.Stream.{Stream}
 use Rattle.sub_types.specs.Value.{Fits}
 use Rattle.sub_types.specs.declared.fault.Fault.{Fault}
-use Rattle.std.specs.Prelude.{Result}
 use Rattle.plan_typed.specs.declared.rel.Rel.{Rel}
 use Rattle.plan_typed.specs.declared.sub.Sub.{Sub}
 use Rattle.plan_typed.specs.Types.{columns_of}
@@ -16,8 +15,7 @@ use Rattle.plan_reads.specs.declared.reads.Origin.{Origin}
 use Rattle.plan_reads.specs.declared.reads.Origin.TheVariants as origins
 use Rattle.plan_reads.specs.declared.reads.PlanRead.{PlanRead}
 use Rattle.open_blocks.specs.Files.{FilesSeen, AreOpenFor, files_at}
-use Rattle.read_rounds.specs.Told.{blocks_at}
-use Rattle.table_engine.specs.Inputs.{AreTablesOf}
+pub use Rattle.table_engine.specs.Inputs.{AreTablesOf, IsReceiptOf, TellsRows, blocks_at, gathered_stream}
 
 -- the files of a read relation are open for it
 pub record IsOpenRead (read : PlanRead) (one : FilesSeen) : Type 0 where

@@ -12,12 +12,11 @@ use Rattle.plan_reads.specs.Reads.{reads_in, reads_of as plan_reads_of}
 use Rattle.cut_laws.specs.Reads.{reads_of}
 use Rattle.agree_laws.specs.Agree.{Agrees, found_for, rels_of}
 use Rattle.open_blocks.specs.Files.{FilesSeen}
-use Rattle.pipe_flows.specs.Receipts.{IsReceiptOf}
+use Rattle.table_engine.specs.Inputs.{IsReceiptOf, AreTablesOf}
 use Rattle.plan_reads.specs.declared.reads.PlanRead.{PlanRead}
 use Rattle.run_words.specs.declared.status.PipeReceipt.{PipeReceipt}
 use Rattle.sub_query.specs.declared.worth.KnownWorth.{KnownWorth}
 use Rattle.plan_rows.specs.Seen.{all_seen}
-use Rattle.table_engine.specs.Inputs.{AreTablesOf}
 use Rattle.plan_rounds.specs.Inputs.{batches_of}
 use Rattle.plan_rounds.specs.Ready.{IsReady}
 

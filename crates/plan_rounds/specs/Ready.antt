@@ -6,7 +6,7 @@ use Rattle.plan_typed.specs.Numbers.{numbers_of}
 use Rattle.well_typed.specs.WellTyped.{AreTyped, AllDiffer}
 use Rattle.cut_laws.specs.Found.{read_rels}
 use Rattle.open_blocks.specs.Files.{FilesSeen}
-use Rattle.pipe_flows.specs.Inputs.{IsOpenFor}
+use Rattle.table_engine.specs.Inputs.{IsOpenFor}
 
 -- a well-typed relation, over files that are open for what it reads
 pub record IsReady (rel : Rel) (files : List FilesSeen) : Type 0 where

@@ -6,4 +6,4 @@ mod receipts;
 mod run;
 
 pub use run::run_plan;
-pub use table_engine::Gathered;
+pub use table_engine::{Crew, Gathered};

@@ -15,9 +15,8 @@ ghost use Rattle.cut_laws.specs.Reads as cut;
 ghost use Rattle.open_blocks.specs.Files.{faults_of, files_seen};
 ghost use Rattle.open_blocks.specs.Taken.{Adds};
 ghost use Rattle.piece_batches.specs.Ended.{ended_stream};
-ghost use Rattle.pipe_flows.specs.Receipts.{IsReceiptAt, IsReceiptOf};
+ghost use Rattle.table_engine.specs.Inputs.{AreTablesOf, IsReceiptAt, IsReceiptOf, gathered_stream};
 ghost use Rattle.sub_query.specs.Known.{found_seen, known_seen};
-ghost use Rattle.table_engine.specs.Inputs.{AreTablesOf, gathered_stream};
 ghost use Rattle.plan_rounds.specs.Inputs.{AreRowsOf, IsOpenRead, IsWorthOf, input_read};
 ghost use Rattle.plan_rounds.specs.Known.{AreWorths};
 ghost use Rattle.plan_rounds.specs.Ready.{IsReady};
@@ -26,7 +25,6 @@ use crate::receipts::put_in_order;
 use open_blocks::ReadFiles;
 use piece_batches::EndedBatches;
 use plan_typed::{Holed, Rel, Sub};
-use read_rounds::Crew;
 use run_words::PipeReceipt;
 use std::alloc::Global;
 use std::marker::{Send, Sync};
@@ -34,7 +32,7 @@ use std::sync::Wait;
 use std::thread::Threads;
 use sub_query::{KnownWorth, Worth, filled_rel, worth_of_batches};
 use sub_types::Fault;
-use table_engine::{Gathered, run_tree};
+use table_engine::{Crew, Gathered, run_tree};
 use world::{FolderError, Gate, Reader};
 
 /// The rows of a checked plan in batches of its columns' types, and the fault that ends them, over the open files of its read relations,

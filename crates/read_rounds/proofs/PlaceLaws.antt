@@ -1,6 +1,6 @@
 -- The files of a read relation at their place.
 use Rattle.std.proofs.Common.{◌≡◌, ◌∙◌, ◌<◌, ◌≤◌, ℕ, zero, suc, ◌+◌, List, [], ◌∷◌, Bool, true, false, Option, Some, length, map, get_or, set, sum_by, ◌==◌, ◌≢◌, true≢false, refl, sym, ap, subst, arith, if◌then◌else◌}
-use Rattle.std.specs.Prelude.{Result, Ok, Err, OnOk, position}
+use Rattle.std.specs.Prelude.{Result, position}
 use Rattle.std.specs.List.{All}
 use Rattle.std.proofs.lemmas.Bool.{eq-eqb, eqb-true}
 use Rattle.std.proofs.lemmas.List.Elements.{All-head, All-tail}
@@ -69,10 +69,6 @@ module _ {R : Type 0} (bytes : R → Option (List ℕ)) (relation : ℕ) where
   have_read reads files at one new is there once =
       let some = position-Some is_of files at one is in
       first_read reads files at one new some.0 some.1 some.2 (subst (λ (x : ReadFiles R). AreReadOnce x.blocks.files.items (map reads x.readers.items) (map reads new.readers.items)) there once)
-
-pub when_ok : {T E : Type 0} (result : Result T E) (P Q : Type 0) → (P → Q) → OnOk result P → OnOk result Q
-when_ok (Ok given) P Q so is = so is
-when_ok (Err error) P Q so is = is
 
 -- the count of failed reads rises as that of the files at a place
 summed : (a b s t : ℕ) → t + a ≡ s + b → a ≤ b → s ≤ t

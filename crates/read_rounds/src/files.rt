@@ -1,22 +1,17 @@
 // The blocks of a read relation's files, through steps.
-ghost use Rattle.std.specs.Prelude.{◌≡◌, ◌==◌, IfOk, OnOk, List, Some, length, map, position, sum_by, true, vec_len};
+ghost use Rattle.std.specs.Prelude.{◌≡◌, ◌==◌, IfOk, OnOk, Some, length, map, position, sum_by, true, vec_len};
 ghost use Rattle.std.specs.List.{All};
-ghost use Rattle.sub_types.specs.Stream.{Stream, glue};
+ghost use Rattle.sub_types.specs.Stream.{Stream};
 ghost use Rattle.world.specs.Counts.{HasCause};
 ghost use Rattle.run_core.specs.Receipts.{lists_of, IsBalanced};
-ghost use Rattle.batch.specs.BatchRows.{stream_of_piece};
 ghost use Rattle.plan_denote.specs.Rows.{Row};
-ghost use Rattle.plan_pipes.specs.Run.{through};
-ghost use Rattle.plan_pipes.specs.RowMeaning.{row_steps};
-ghost use Rattle.pipe_types.specs.Exact.{exact_steps};
-ghost use Rattle.pipe_steps.specs.Behind.{IsStored};
-ghost use Rattle.pipe_steps.specs.Tables.{joins_of, tables_seen};
 ghost use Rattle.block_source.specs.Bodies.{AreReadOnce};
 ghost use Rattle.block_source.specs.Seen.{AreHeads};
 ghost use Rattle.table_rows.specs.Blocks.{HaveKinds};
 ghost use Rattle.block_work.specs.Reads.{StartsWithRead};
 ghost use Rattle.open_blocks.specs.Files.{AreOpenFor, faults_of, files_at, files_seen};
 ghost use Rattle.read_rounds.specs.Bodies.{HaveRead, reads_made};
+ghost use Rattle.read_rounds.specs.Given.{ArePartsThrough};
 ghost use Rattle.read_rounds.specs.Told.{TellsRows, blocks_at, blocks_in, parts_seen};
 
 use crate::round::FeedRound;
@@ -34,9 +29,10 @@ use std::thread::Threads;
 use table_round::run_table;
 use world::{FolderError, Gate, Reader};
 
-/// What the steps of a pipeline give over the blocks of the files of the read relation with a number, up to the first fault, read and
-/// worked by the workers, whatever their turns are. The files stay in their places. A failed read is an error only where no fault stands
-/// before it. Steps that don't begin with a read relation's, and files without the relation's, are answered with `NoMemory`.
+/// What is kept of what the steps of a pipeline give over the blocks of the files of the read relation with a number, up to the first
+/// fault, read and worked by the workers, whatever their turns are. The files stay in their places. A failed read is an error only where
+/// no fault stands before it. Steps that don't begin with a read relation's, and files without the relation's, are answered with
+/// `NoMemory`.
 pub fn read_named<H: Threads + Wait + Sync, R: Reader + Send, G: Gate>(
     crew: &Crew<'_, H, G>,
     alloc: Global,
@@ -51,10 +47,9 @@ pub fn read_named<H: Threads + Wait + Sync, R: Reader + Send, G: Gate>(
     ensures batches { IfOk result (λ r. r.batches ≡ blocks_at (files_at relation (map (files_seen R.bytes) files.old.items))) }
     ensures balanced { IfOk result (λ r. IsBalanced r.batches (map lists_of r.receipts.items) r.left.items) }
 
-    // What is given is what the steps give over the rows of the files, where these tell their bytes.
-    ensures rows { IfOk result (λ r. (given : Stream Row) × TellsRows (files_at relation (map (files_seen R.bytes) files.old.items)) given
-        × (glue (map stream_of_piece r.pieces.items) ≡ through row_steps (tables_seen pipe.now.tables) pipe.now.steps given)) }
-    ensures stored { IfOk result (λ r. All (IsStored (through exact_steps (joins_of pipe.now.tables) pipe.now.steps pipe.now.types)) r.pieces.items) }
+    // The parts are those of what the steps give over the rows of the files, where these tell their bytes.
+    ensures parts { IfOk result (λ r. (given : Stream Row) × TellsRows (files_at relation (map (files_seen R.bytes) files.old.items)) given
+        × ArePartsThrough pipe.now given r.parts.items) }
 
     // The body of each good block of the files was read once.
     ensures reads { OnOk result (HaveRead relation (map (files_seen R.bytes) files.old.items) (reads_made R.reads files.old.items) (reads_made R.reads files.new.items)) }
@@ -104,9 +99,8 @@ fn read_at<H: Threads + Wait + Sync, R: Reader + Send, G: Gate>(
     ensures workers { IfOk result (λ r. vec_len r.receipts ≡ crew.now.workers) }
     ensures batches { IfOk result (λ r. r.batches ≡ blocks_at (files_at relation (map (files_seen R.bytes) files.old.items))) }
     ensures balanced { IfOk result (λ r. IsBalanced r.batches (map lists_of r.receipts.items) r.left.items) }
-    ensures rows { IfOk result (λ r. (given : Stream Row) × TellsRows (files_at relation (map (files_seen R.bytes) files.old.items)) given
-        × (glue (map stream_of_piece r.pieces.items) ≡ through row_steps (tables_seen pipe.now.tables) pipe.now.steps given)) }
-    ensures stored { IfOk result (λ r. All (IsStored (through exact_steps (joins_of pipe.now.tables) pipe.now.steps pipe.now.types)) r.pieces.items) }
+    ensures parts { IfOk result (λ r. (given : Stream Row) × TellsRows (files_at relation (map (files_seen R.bytes) files.old.items)) given
+        × ArePartsThrough pipe.now given r.parts.items) }
     ensures reads { OnOk result (HaveRead relation (map (files_seen R.bytes) files.old.items) (reads_made R.reads files.old.items) (reads_made R.reads files.new.items)) }
     ensures seen { map (files_seen R.bytes) files.new.items ≡ map (files_seen R.bytes) files.old.items }
     ensures cause { HasCause FolderError.Failed (faults_of R.faults files.old.items) (faults_of R.faults files.new.items) result }
@@ -126,9 +120,8 @@ fn read_one<H: Threads + Wait + Sync, R: Reader + Send, G: Gate>(
     ensures workers { IfOk result (λ r. vec_len r.receipts ≡ crew.now.workers) }
     ensures batches { IfOk result (λ r. r.batches ≡ blocks_in (files_seen R.bytes one.old)) }
     ensures balanced { IfOk result (λ r. IsBalanced r.batches (map lists_of r.receipts.items) r.left.items) }
-    ensures rows { IfOk result (λ r. (given : Stream Row) × TellsRows (Some (files_seen R.bytes one.old)) given
-        × (glue (map stream_of_piece r.pieces.items) ≡ through row_steps (tables_seen pipe.now.tables) pipe.now.steps given)) }
-    ensures stored { IfOk result (λ r. All (IsStored (through exact_steps (joins_of pipe.now.tables) pipe.now.steps pipe.now.types)) r.pieces.items) }
+    ensures parts { IfOk result (λ r. (given : Stream Row) × TellsRows (Some (files_seen R.bytes one.old)) given
+        × ArePartsThrough pipe.now given r.parts.items) }
     ensures reads { OnOk result (AreReadOnce one.old.blocks.files.items (map R.reads one.old.readers.items) (map R.reads one.new.readers.items)) }
     ensures seen { files_seen R.bytes one.new ≡ files_seen R.bytes one.old }
     ensures cause { HasCause FolderError.Failed (sum_by R.faults one.old.readers.items) (sum_by R.faults one.new.readers.items) result }
@@ -162,9 +155,8 @@ fn read_parts<H: Threads + Wait + Sync, R: Reader + Send, G: Gate>(
     ensures workers { IfOk result (λ r. vec_len r.receipts ≡ crew.now.workers) }
     ensures batches { IfOk result (λ r. r.batches ≡ vec_len blocks.now.places) }
     ensures balanced { IfOk result (λ r. IsBalanced r.batches (map lists_of r.receipts.items) r.left.items) }
-    ensures rows { IfOk result (λ r. (given : Stream Row) × TellsRows (Some (parts_seen relation blocks.now.files.items numbers.now (map R.bytes readers.old.items))) given
-        × (glue (map stream_of_piece r.pieces.items) ≡ through row_steps (tables_seen pipe.now.tables) pipe.now.steps given)) }
-    ensures stored { IfOk result (λ r. All (IsStored (through exact_steps (joins_of pipe.now.tables) pipe.now.steps pipe.now.types)) r.pieces.items) }
+    ensures parts { IfOk result (λ r. (given : Stream Row) × TellsRows (Some (parts_seen relation blocks.now.files.items numbers.now (map R.bytes readers.old.items))) given
+        × ArePartsThrough pipe.now given r.parts.items) }
     ensures reads { OnOk result (AreReadOnce blocks.now.files.items (map R.reads readers.old.items) (map R.reads readers.new.items)) }
     ensures bytes { map R.bytes readers.new.items ≡ map R.bytes readers.old.items }
     ensures cause { HasCause FolderError.Failed (sum_by R.faults readers.old.items) (sum_by R.faults readers.new.items) result }
@@ -191,22 +183,21 @@ fn read_blocks<H: Threads + Wait + Sync, R: Reader + Send, G: Gate>(
     ensures workers { IfOk result (λ r. vec_len r.receipts ≡ crew.now.workers) }
     ensures batches { IfOk result (λ r. r.batches ≡ vec_len steps.now.table.now.places) }
     ensures balanced { IfOk result (λ r. IsBalanced r.batches (map lists_of r.receipts.items) r.left.items) }
-    ensures rows { IfOk result (λ r. (given : Stream Row) × TellsRows (Some (parts_seen steps.now.relation steps.now.table.now.files.items steps.now.numbers.now (map R.bytes readers.old.items))) given
-        × (glue (map stream_of_piece r.pieces.items) ≡ through row_steps (tables_seen steps.now.pipe.now.tables) steps.now.pipe.now.steps given)) }
-    ensures stored { IfOk result (λ r. All (IsStored (through exact_steps (joins_of steps.now.pipe.now.tables) steps.now.pipe.now.steps steps.now.pipe.now.types)) r.pieces.items) }
+    ensures parts { IfOk result (λ r. (given : Stream Row) × TellsRows (Some (parts_seen steps.now.relation steps.now.table.now.files.items steps.now.numbers.now (map R.bytes readers.old.items))) given
+        × ArePartsThrough steps.now.pipe.now given r.parts.items) }
     ensures reads { OnOk result (AreReadOnce steps.now.table.now.files.items (map R.reads readers.old.items) (map R.reads readers.new.items)) }
     ensures bytes { map R.bytes readers.new.items ≡ map R.bytes readers.old.items }
     ensures cause { HasCause FolderError.Failed (sum_by R.faults readers.old.items) (sum_by R.faults readers.new.items) result }
 {
     let round = run_table(crew.rt, alloc, steps, readers, crew.workers, crew.gate)?;
     let PipeRound {
-        pieces,
+        parts,
         receipts,
         left,
     } = round;
     let batches = steps.table.places.len() as u64;
     Ok(FeedRound {
-        pieces,
+        parts,
         batches,
         receipts,
         left,

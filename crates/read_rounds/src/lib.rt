@@ -1,6 +1,7 @@
 //! Rounds of workers over what feeds a pipeline: pieces in memory, or the blocks of the files of a read relation, which the workers read.
-//! Each piece or block is claimed once, and what the pipeline's steps give over all of them is put together in order. It stands on
-//! `pipe_round`, `table_round` and `open_blocks`. Its meaning stands in `plan_pipes/specs/`, and in its own `specs/` what files tell.
+//! Each piece or block is claimed once, and what is kept of what the pipeline's steps give over all of them is put together in order. It
+//! stands on `pipe_round`, `table_round` and `open_blocks`. Its meaning stands in `plan_pipes/specs/` and `pipe_parts/specs/`, and in its
+//! own `specs/` what files tell.
 #![tactic(auto)]
 
 mod files;

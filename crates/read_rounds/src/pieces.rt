@@ -1,14 +1,11 @@
 // Pieces in memory, through steps.
-ghost use Rattle.std.specs.Prelude.{◌≡◌, ◌≤◌, ◌^◌, IfOk, IfSome, length, map, vec_len};
+ghost use Rattle.std.specs.Prelude.{◌≡◌, ◌≤◌, ◌^◌, IfOk, IfSome, map, vec_len};
 ghost use Rattle.std.specs.List.{All};
 ghost use Rattle.sub_types.specs.Stream.{glue};
 ghost use Rattle.run_core.specs.Receipts.{lists_of, IsBalanced};
 ghost use Rattle.batch.specs.BatchRows.{stream_of_piece};
-ghost use Rattle.plan_pipes.specs.Run.{through};
-ghost use Rattle.plan_pipes.specs.RowMeaning.{row_steps};
-ghost use Rattle.pipe_types.specs.Exact.{exact_steps};
 ghost use Rattle.pipe_steps.specs.Behind.{IsStored};
-ghost use Rattle.pipe_steps.specs.Tables.{joins_of, tables_seen};
+ghost use Rattle.read_rounds.specs.Given.{ArePartsThrough};
 
 use crate::round::FeedRound;
 use crate::workers::Crew;
@@ -24,8 +21,8 @@ use world::Gate;
 /// The most pieces of a round.
 const MAX_PIECES: u64 = 1 << 62;
 
-/// What steps give over pieces that may go through them, up to the first fault, worked by the workers, whatever their turns are. There
-/// are never more than 2^62, which is answered with `NoMemory`.
+/// What is kept of what steps give over pieces that may go through them, up to the first fault, worked by the workers, whatever their
+/// turns are. There are never more than 2^62, which is answered with `NoMemory`.
 pub fn pass_pieces<H: Threads + Wait + Sync, G: Gate>(
     crew: &Crew<'_, H, G>,
     alloc: Global,
@@ -39,9 +36,8 @@ pub fn pass_pieces<H: Threads + Wait + Sync, G: Gate>(
     ensures batches { IfOk result (λ r. r.batches ≡ vec_len pieces) }
     ensures balanced { IfOk result (λ r. IsBalanced r.batches (map lists_of r.receipts.items) r.left.items) }
 
-    // What is given is what the steps give over the whole input, and may go through further steps.
-    ensures rows { IfOk result (λ r. glue (map stream_of_piece r.pieces.items) ≡ through row_steps (tables_seen pipe.now.tables) pipe.now.steps (glue (map stream_of_piece pieces.items))) }
-    ensures stored { IfOk result (λ r. All (IsStored (through exact_steps (joins_of pipe.now.tables) pipe.now.steps pipe.now.types)) r.pieces.items) }
+    // The parts are those of what the steps give over the whole input.
+    ensures parts { IfOk result (λ r. ArePartsThrough pipe.now (glue (map stream_of_piece pieces.items)) r.parts.items) }
 {
     let Some(batches) = count_pieces(&pieces) else {
         return Err(NoMemory);
@@ -49,12 +45,12 @@ pub fn pass_pieces<H: Threads + Wait + Sync, G: Gate>(
     let held = hold_pieces(alloc, pipe, pieces)?;
     let round = run_pieces(crew.rt, alloc, pipe, &held, crew.workers, crew.gate)?;
     let PipeRound {
-        pieces,
+        parts,
         receipts,
         left,
     } = round;
     Ok(FeedRound {
-        pieces,
+        parts,
         batches,
         receipts,
         left,

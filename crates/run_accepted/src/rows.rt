@@ -9,7 +9,7 @@ ghost use Rattle.plan_tables.specs.Open.{open_seen, AllTold, AllReady, count_ope
 ghost use Rattle.plan_tables.specs.Tables as spec;
 ghost use Rattle.plan_tables.specs.Tables.{Opened, tables_of};
 ghost use Rattle.plan_denote.specs.Subqueries.{denote_plan};
-ghost use Rattle.table_engine.specs.Inputs.{gathered_stream};
+ghost use Rattle.gather_plans.specs.Over.{gathered_stream};
 ghost use Rattle.run_accepted.specs.Done.{IsAccepted, input_of};
 ghost use Rattle.crew_tables.specs.Receipts.{IsReceiptOf};
 ghost use Rattle.run_accepted.specs.Fits.{FitsRows};

@@ -12,7 +12,7 @@ ghost use Rattle.batch.specs.BatchRows.{types_of};
 ghost use Rattle.plan_typed.specs.Types.{columns_of};
 ghost use Rattle.plan_denote.specs.Denote.{Tables};
 ghost use Rattle.plan_denote.specs.Subqueries.{denote_plan};
-ghost use Rattle.table_engine.specs.Inputs.{gathered_stream};
+ghost use Rattle.gather_plans.specs.Over.{gathered_stream};
 ghost use Rattle.run_words.specs.ReadingSeen.{reading_seen};
 ghost use Rattle.run_accepted.specs.Done as spec;
 ghost use Rattle.run_accepted.specs.Done.{IsAccepted, input_of};

@@ -13,8 +13,7 @@ use Rattle.cut_flows.specs.Given.{fed_by, fed_in}
 use Rattle.cut_laws.specs.Found.{ReadRel, read_at}
 use Rattle.fed_laws.proofs.CountLaws.{count, counted-first, weight}
 use Rattle.open_blocks.specs.Files.{FilesSeen}
-use Rattle.read_rounds.specs.Bodies.{HaveRead}
-use Rattle.pipe_flows.specs.Bodies.{HaveReadAt, HaveReadFrom, HaveReadInTurn}
+use Rattle.pipe_flows.specs.Bodies.{HaveRead, HaveReadAt, HaveReadFrom, HaveReadInTurn}
 use Rattle.table_engine.specs.Bodies.{AreBodiesRead, IsFirst, IsOfFiles, ReadsFiles}
 
 abbrev Made : Type 0
@@ -97,14 +96,11 @@ module _ (reads : List ReadRel) (files : List FilesSeen) (at : ℕ) (one : Files
   counted_own : (number : ℕ) (more : List ℕ) → number ≡ one.relation → count one.relation (number ∷ more) ≡ 1 + count one.relation more
   counted_own number more same = counted-first number one.relation more ∙ ap (λ (test : Bool). weight test + count one.relation more) (eq-eqb number one.relation same)
 
-  fewer : (number : ℕ) (more : List ℕ) → count one.relation more ≤ count one.relation (number ∷ more)
-  fewer number more = omega (arith, counted-first number one.relation more)
-
   unread : (numbers : List ℕ) (start now : Made) → count one.relation numbers ≡ 0 → HaveReadInTurn reads files numbers start now → there now at ≡ there start at
   unread [] start now none read = ap (λ (all : Made). there all at) read
   unread (number ∷ more) start now none read =
       decide number one.relation (λ same. absurd (omega (arith, none, counted_own number more same)))
-      (λ other. unread more read.0 now (omega (arith, none, fewer number more)) read.2 ∙ stays_at (read_at number reads) number start read.0 other read.1)
+      (λ other. unread more read.0 now (omega (arith, none, counted-first number one.relation more)) read.2 ∙ stays_at (read_at number reads) number start read.0 other read.1)
 
   abbrev Once : Made → Made → Type 0
   Once start now = AreReadOnce one.files (there start at) (there now at)

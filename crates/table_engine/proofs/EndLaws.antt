@@ -37,8 +37,7 @@ use Rattle.fed_laws.proofs.GivenLaws.{have_tables}
 use Rattle.pipe_feeds.specs.Kept.{AreTypedAs, whole}
 use Rattle.pipe_feeds.specs.declared.stores.Stores.{Stores}
 use Rattle.pipe_feeds.proofs.KeptLaws.{kept_at}
-use Rattle.pipe_flows.specs.Inputs.{columns_of, told_by, IsOpenFor}
-use Rattle.read_rounds.specs.Told.{TellsRows}
+use Rattle.pipe_flows.specs.Inputs.{columns_of, told_by, IsOpenFor, TellsRows}
 use Rattle.table_engine.specs.Inputs.{AreTablesOf}
 use Rattle.read_laws.specs.Typed.{IsTypedRead}
 use Rattle.table_engine.specs.Stands.{ArePipesOn, HaveRun, StandsFor, types_in}

@@ -2,7 +2,6 @@
 use Rattle.std.proofs.Common.{◌≡◌, ◌∙◌, ℕ, List, [], ◌∷◌, ◌++◌, Option, sym, ap, ap₂, subst}
 use Rattle.sub_types.specs.declared.kind.Ty.{Ty}
 use Rattle.sub_types.specs.Stream.{Stream}
-use Rattle.batch.specs.declared.batch.Piece.{Piece}
 use Rattle.rel_specs.specs.declared.join.JoinSpec.{JoinSpec}
 use Rattle.plan_denote.specs.Denote.{Tables}
 use Rattle.plan_denote.specs.Rows.{Row}
@@ -14,6 +13,8 @@ use Rattle.pipe_types.specs.Exact.{exact_over, gathered_types}
 use Rattle.pipe_types.specs.Over.{IsBreakerOver}
 use Rattle.pipe_steps.specs.Tables.{joins_of, tables_seen}
 use Rattle.pipe_steps.specs.declared.built.BuiltTable.{BuiltTable}
+use Rattle.pipe_parts.specs.Parts.{ArePartsOf}
+use Rattle.pipe_parts.specs.declared.part.Part.{Part}
 use Rattle.pipe_ends.specs.Given.{IsInput}
 use Rattle.pipe_feeds.specs.Kept.{AreStreams, AreTypedAs, IsLeft}
 use Rattle.cut_laws.specs.Found.{ReadRel}
@@ -38,27 +39,23 @@ module _ (old mid : Stores) (pipe : Pipe) (left : IsLeft old.streams.items mid.s
       (types ∙ ap₂ (λ (all : List (List Ty)) (one : List Ty). all ++ gathered_types pipe.breaker one ∷ []) types_stay is)
       (joins ∙ ap₂ (λ (all : List BuiltTable) (one : List Ty). joins_of all ++ built (exact_over columns) pipe.breaker one) tables_stay is)
 
-  rows_after : (inputs : Tables) (new : Stores) (pieces : List Piece) (past : Past (Stream Row) Table) → StandsFor past old → stream_of pieces ≡ flow (rows_over inputs) past pipe.feed pipe.steps
-      → ((streams : List (Stream Row)) → AreStreams streams mid.streams.items → AreStreams (streams ++ gathered pipe.breaker (stream_of pieces) ∷ []) new.streams.items)
-      → tables_seen new.tables.items ≡ tables_seen mid.tables.items ++ built (rows_over inputs) pipe.breaker (stream_of pieces)
-      → StandsFor (after (rows_over inputs) past pipe) new
-  rows_after inputs new pieces past stands is rows tables =
-      record {
-        streams =
-            subst (λ (s : Stream Row). AreStreams (past.streams ++ gathered pipe.breaker s ∷ []) new.streams.items) is
-            (rows past.streams (kept_left (λ stream pieces. stream_of pieces ≡ stream) past.streams old.streams.items mid.streams.items stands.streams left));
-        tables =
-            tables ∙ ap₂ (λ (all : List BuiltTable) (s : Stream Row). tables_seen all ++ built (rows_over inputs) pipe.breaker s) tables_stay is
-            ∙ ap (λ (all : List Table). all ++ built (rows_over inputs) pipe.breaker (flow (rows_over inputs) past pipe.feed pipe.steps)) stands.tables;
-      }
+  module _ (new : Stores) (types : List Ty) (parts : List Part)
+      (rows_close : (rows : Stream Row) → ArePartsOf pipe.breaker types rows parts → (streams : List (Stream Row)) → AreStreams streams mid.streams.items → AreStreams (streams ++ gathered pipe.breaker rows ∷ []) new.streams.items)
+      (tables_close : (rows : Stream Row) → ArePartsOf pipe.breaker types rows parts → (inputs : Tables) → tables_seen new.tables.items ≡ tables_seen mid.tables.items ++ built (rows_over inputs) pipe.breaker rows) where
+    rows_after : (inputs : Tables) (past : Past (Stream Row) Table) → StandsFor past old → ArePartsOf pipe.breaker types (flow (rows_over inputs) past pipe.feed pipe.steps) parts → StandsFor (after (rows_over inputs) past pipe) new
+    rows_after inputs past stands are =
+        let given = flow (rows_over inputs) past pipe.feed pipe.steps in
+        record {
+          streams = rows_close given are past.streams (kept_left (λ stream pieces. stream_of pieces ≡ stream) past.streams old.streams.items mid.streams.items stands.streams left);
+          tables =
+              tables_close given are inputs ∙ ap (λ (all : List BuiltTable). tables_seen all ++ built (rows_over inputs) pipe.breaker given) tables_stay
+              ∙ ap (λ (all : List Table). all ++ built (rows_over inputs) pipe.breaker given) stands.tables;
+        }
 
-  -- what fed it gives what it gathers
-  pub ran_pipe : (files : List FilesSeen) (reads : List ReadRel) (new : Stores) (pieces : List Piece) → FlowsFrom files reads pipe.feed pipe.steps old pieces
-      → ((streams : List (Stream Row)) → AreStreams streams mid.streams.items → AreStreams (streams ++ gathered pipe.breaker (stream_of pieces) ∷ []) new.streams.items)
-      → ((inputs : Tables) → tables_seen new.tables.items ≡ tables_seen mid.tables.items ++ built (rows_over inputs) pipe.breaker (stream_of pieces))
-      → HasRunPipe files reads pipe old new
-  ran_pipe files reads new pieces flows rows tables = record {
-    given = flows.given;
-    fed_by = flows.fed_by;
-    stands = λ inputs feeds past stands. rows_after inputs new pieces past stands (flows.rows inputs feeds past stands) rows (tables inputs);
-  }
+    -- what fed it gives what it gathers
+    pub ran_pipe : (files : List FilesSeen) (reads : List ReadRel) → FlowsFrom files reads pipe.feed pipe.steps pipe.breaker old types parts → HasRunPipe files reads pipe old new
+    ran_pipe files reads flows = record {
+      given = flows.given;
+      fed_by = flows.fed_by;
+      stands = λ inputs feeds past stands. rows_after inputs past stands (flows.rows inputs feeds past stands);
+    }

@@ -6,7 +6,8 @@ use Rattle.batch.specs.BatchRows.{rows_of}
 use Rattle.plan_denote.specs.Denote.{Tables}
 use Rattle.plan_denote.specs.Rows.{Row}
 use Rattle.open_blocks.specs.Files.{FilesSeen}
-use Rattle.pipe_flows.specs.Inputs.{told_by}
+pub use Rattle.pipe_flows.specs.Inputs.{IsOpenFor, TellsRows, blocks_at, told_by}
+pub use Rattle.pipe_flows.specs.Receipts.{IsReceiptAt, IsReceiptOf, batches_from, batches_read}
 use Rattle.table_engine.specs.declared.run.Gathered.{Gathered}
 
 -- tables that are those of files, wherever these tell their bytes

@@ -3,7 +3,6 @@ use Rattle.std.specs.Prelude.{◌≡◌, ℕ, List, [], ◌∷◌, Bool, true, f
 use Rattle.sub_types.specs.declared.kind.Ty.{Ty}
 use Rattle.sub_types.specs.Stream.{Stream}
 use Rattle.rel_specs.specs.declared.join.JoinSpec.{JoinSpec}
-use Rattle.batch.specs.declared.batch.Piece.{Piece}
 use Rattle.plan_denote.specs.Denote.{Tables}
 use Rattle.plan_denote.specs.Rows.{Row}
 use Rattle.plan_pipes.specs.declared.pipe.Breaker.{Breaker}
@@ -16,7 +15,8 @@ use Rattle.plan_pipes.specs.RowMeaning.{Table, rows_over}
 use Rattle.pipe_types.specs.Exact.{exact_over}
 use Rattle.pipe_types.specs.Over.{IsFeedOver, AreStepsOver, IsBreakerOver}
 use Rattle.pipe_steps.specs.Tables.{tables_seen, joins_of}
-use Rattle.set_rels.specs.Inputs.{stream_of}
+use Rattle.pipe_parts.specs.Parts.{ArePartsOf}
+use Rattle.pipe_parts.specs.declared.part.Part.{Part}
 use Rattle.cut_laws.specs.Found.{ReadRel}
 use Rattle.open_blocks.specs.Files.{FilesSeen}
 use Rattle.fed_laws.specs.Fed.{AreFedBy, FeedAll, Feeds, IsFedBy}
@@ -49,11 +49,11 @@ abbrev pub builds : Breaker → Bool
 builds (breakers.Build join) = true
 builds _ = false
 
--- what comes through the steps of a pipeline, by what feeds it
-pub record FlowsFrom (files : List FilesSeen) (reads : List ReadRel) (feed : Feed) (steps : List Step) (stores : Stores) (pieces : List Piece) : Type 0 where
+-- the parts of what comes through the steps of a pipeline, by what feeds it
+pub record FlowsFrom (files : List FilesSeen) (reads : List ReadRel) (feed : Feed) (steps : List Step) (breaker : Breaker) (stores : Stores) (types : List Ty) (parts : List Part) : Type 0 where
   pub given : Stream Row
   pub fed_by : IsFedBy (told_by files) reads feed given
-  pub rows : (inputs : Tables) → Feeds inputs feed given → (past : Past (Stream Row) Table) → StandsFor past stores → stream_of pieces ≡ flow (rows_over inputs) past feed steps
+  pub rows : (inputs : Tables) → Feeds inputs feed given → (past : Past (Stream Row) Table) → StandsFor past stores → ArePartsOf breaker types (flow (rows_over inputs) past feed steps) parts
 
 -- a pipeline ran, by what fed it
 pub record HasRunPipe (files : List FilesSeen) (reads : List ReadRel) (pipe : Pipe) (old new : Stores) : Type 0 where

@@ -6,4 +6,5 @@
 mod pipe;
 mod run;
 
+pub use pipe_flows::Crew;
 pub use run::{Gathered, run_tree};

@@ -7,30 +7,28 @@ ghost use Rattle.world.specs.Counts.{HasCause};
 ghost use Rattle.well_typed.specs.WellTyped.{AreAll};
 ghost use Rattle.plan_denote.specs.Denote.{Tables};
 ghost use Rattle.plan_denote.specs.Rows.{Row};
+ghost use Rattle.plan_pipes.specs.declared.pipe.Breaker.TheVariants as breakers;
 ghost use Rattle.plan_pipes.specs.Run.{after, built, fed, flow};
 ghost use Rattle.plan_pipes.specs.RowMeaning.{gathered, rows_over, table_of};
 ghost use Rattle.pipe_types.specs.Exact.{exact_over, gathered_types};
 ghost use Rattle.pipe_types.specs.Over.{AreStepsOver, IsBreakerOver, IsFeedOver};
 ghost use Rattle.pipe_steps.specs.Tables.{joins_of, tables_seen};
-ghost use Rattle.pipe_ends.specs.Given.{IsInput};
-ghost use Rattle.set_rels.specs.Inputs.{stream_of};
+ghost use Rattle.pipe_parts.specs.Parts.{ArePartsOf, HaveParts};
 ghost use Rattle.cut_flows.specs.Given.{fed_by};
 ghost use Rattle.read_laws.specs.Typed.{IsTypedRead};
 ghost use Rattle.open_blocks.specs.Files.{faults_of, files_seen};
 ghost use Rattle.open_blocks.specs.Taken.{Adds};
 ghost use Rattle.pipe_feeds.specs.Kept.{AreTypedAs, AreStreams, IsLeft};
-ghost use Rattle.read_rounds.specs.Bodies.{reads_made};
-ghost use Rattle.pipe_flows.specs.Bodies.{HaveReadInTurn};
+ghost use Rattle.pipe_flows.specs.Bodies.{HaveReadInTurn, reads_made};
 ghost use Rattle.pipe_flows.specs.Inputs.{columns_of, reads_seen, IsOpenFor};
 ghost use Rattle.pipe_flows.specs.Receipts.{IsReceiptAt};
 ghost use Rattle.table_engine.specs.Stands as spec;
 
 use open_blocks::ReadFiles;
-use pipe_ends::{build, end_alone, gather, types_gathered};
-use pipe_feeds::{Stores, Through};
-use pipe_flows::{flow_read, flow_set, flow_stored};
+use pipe_ends::{build, ended_alone, gather, types_gathered};
+use pipe_feeds::Stores;
+use pipe_flows::{Crew, Flowed, flow_read, flow_set, flow_stored};
 use plan_pipes::{Breaker, Feed, Pipe, Step};
-use read_rounds::Crew;
 use read_sources::ReadSource;
 use rel_specs::JoinSpec;
 use run_words::PipeReceipt;
@@ -74,7 +72,7 @@ pub(crate) fn run_pipe<H: Threads + Wait + Sync, R: Reader + Send, G: Gate>(
     Ok(())
 }
 
-/// What comes through the steps of a pipeline.
+/// What is kept for a pipeline's breaker of what comes through its steps.
 fn flow_pipe<H: Threads + Wait + Sync, R: Reader + Send, G: Gate>(
     crew: &Crew<'_, H, G>,
     alloc: Global,
@@ -83,14 +81,14 @@ fn flow_pipe<H: Threads + Wait + Sync, R: Reader + Send, G: Gate>(
     files: &mut Vec<ReadFiles<R>>,
     stores: &mut Stores,
     receipts: &mut Vec<PipeReceipt>,
-) -> Result<Through, FolderError>
+) -> Result<Flowed, FolderError>
     requires reads { All IsTypedRead (reads_seen reads.now) }
     requires files { All (IsOpenFor (reads_seen reads.now)) (map (files_seen R.bytes) files.old.items) }
     requires typed { AreTypedAs stores.old.types.items stores.old.streams.items }
     requires over { spec.IsPipeOn (columns_of (reads_seen reads.now)) (spec.types_in stores.old) pipe.now }
     ensures stored { IfOk result (λ given. given.types.items ≡ flow (exact_over (columns_of (reads_seen reads.now))) (spec.types_in stores.old) pipe.now.feed pipe.now.steps) }
-    ensures input { IfOk result (λ given. IsInput given.types.items given.pieces.items) }
-    ensures rows { IfOk result (λ given. spec.FlowsFrom (map (files_seen R.bytes) files.old.items) (reads_seen reads.now) pipe.now.feed pipe.now.steps stores.old given.pieces.items) }
+    ensures parts { IfOk result (λ given. HaveParts pipe.now.breaker given.types.items given.parts.items) }
+    ensures rows { IfOk result (λ given. spec.FlowsFrom (map (files_seen R.bytes) files.old.items) (reads_seen reads.now) pipe.now.feed pipe.now.steps pipe.now.breaker stores.old given.types.items given.parts.items) }
     ensures left { OnOk result (IsLeft stores.old.streams.items stores.new.streams.items) }
     ensures types { OnOk result (stores.new.types.items ≡ stores.old.types.items) }
     ensures tables { OnOk result (stores.new.tables.items ≡ stores.old.tables.items) }
@@ -101,30 +99,40 @@ fn flow_pipe<H: Threads + Wait + Sync, R: Reader + Send, G: Gate>(
 {
     let steps = pipe.steps.as_slice();
     let given = flow_feed(
-        crew, alloc, &pipe.feed, steps, reads, files, stores, receipts,
+        crew,
+        alloc,
+        &pipe.feed,
+        steps,
+        &pipe.breaker,
+        reads,
+        files,
+        stores,
+        receipts,
     )?;
     Ok(given)
 }
 
-// The same of what feeds a pipeline, and its steps.
+// The same of what feeds a pipeline, its steps and its breaker.
 fn flow_feed<H: Threads + Wait + Sync, R: Reader + Send, G: Gate>(
     crew: &Crew<'_, H, G>,
     alloc: Global,
     feed: &Feed,
     steps: &[Step],
+    breaker: &Breaker,
     reads: &[ReadSource<'_>],
     files: &mut Vec<ReadFiles<R>>,
     stores: &mut Stores,
     receipts: &mut Vec<PipeReceipt>,
-) -> Result<Through, FolderError>
+) -> Result<Flowed, FolderError>
     requires reads { All IsTypedRead (reads_seen reads.now) }
     requires files { All (IsOpenFor (reads_seen reads.now)) (map (files_seen R.bytes) files.old.items) }
     requires typed { AreTypedAs stores.old.types.items stores.old.streams.items }
     requires feed { IsFeedOver (columns_of (reads_seen reads.now)) stores.old.types.items feed.now }
     requires steps { AreStepsOver (joins_of stores.old.tables.items) (fed (exact_over (columns_of (reads_seen reads.now))) stores.old.types.items feed.now) steps.now }
+    requires breaker { IsBreakerOver (flow (exact_over (columns_of (reads_seen reads.now))) (spec.types_in stores.old) feed.now steps.now) breaker.now }
     ensures stored { IfOk result (λ given. given.types.items ≡ flow (exact_over (columns_of (reads_seen reads.now))) (spec.types_in stores.old) feed.now steps.now) }
-    ensures input { IfOk result (λ given. IsInput given.types.items given.pieces.items) }
-    ensures rows { IfOk result (λ given. spec.FlowsFrom (map (files_seen R.bytes) files.old.items) (reads_seen reads.now) feed.now steps.now stores.old given.pieces.items) }
+    ensures parts { IfOk result (λ given. HaveParts breaker.now given.types.items given.parts.items) }
+    ensures rows { IfOk result (λ given. spec.FlowsFrom (map (files_seen R.bytes) files.old.items) (reads_seen reads.now) feed.now steps.now breaker.now stores.old given.types.items given.parts.items) }
     ensures left { OnOk result (IsLeft stores.old.streams.items stores.new.streams.items) }
     ensures types { OnOk result (stores.new.types.items ≡ stores.old.types.items) }
     ensures tables { OnOk result (stores.new.tables.items ≡ stores.old.tables.items) }
@@ -140,6 +148,7 @@ fn flow_feed<H: Threads + Wait + Sync, R: Reader + Send, G: Gate>(
                 alloc,
                 *relation,
                 steps,
+                breaker,
                 reads,
                 files,
                 &stores.tables,
@@ -148,7 +157,7 @@ fn flow_feed<H: Threads + Wait + Sync, R: Reader + Send, G: Gate>(
             Ok(of_read)
         }
         Feed::Pipe(at) => {
-            let of_pipe = flow_stored(crew, alloc, *at, steps, stores)?;
+            let of_pipe = flow_stored(crew, alloc, *at, steps, breaker, stores)?;
             Ok(of_pipe)
         }
         Feed::Set { op, pipes, types } => {
@@ -159,6 +168,7 @@ fn flow_feed<H: Threads + Wait + Sync, R: Reader + Send, G: Gate>(
                 pipes.as_slice(),
                 types.as_slice(),
                 steps,
+                breaker,
                 stores,
             )?;
             Ok(of_set)
@@ -166,21 +176,23 @@ fn flow_feed<H: Threads + Wait + Sync, R: Reader + Send, G: Gate>(
     }
 }
 
-/// Adds what a breaker makes of these pieces.
+/// Adds what a breaker makes of these parts.
 fn close_pipe(
     alloc: Global,
     breaker: Breaker,
-    given: Through,
+    given: Flowed,
     stores: &mut Stores,
 ) -> Result<(), NoMemory>
     requires over { IsBreakerOver given.types.items breaker }
-    requires input { IsInput given.types.items given.pieces.items }
+    requires parts { HaveParts breaker given.types.items given.parts.items }
     requires typed { AreTypedAs stores.old.types.items stores.old.streams.items }
     ensures types { OnOk result (stores.new.types.items ≡ stores.old.types.items ++ gathered_types breaker given.types.items ∷ []) }
     ensures joins { OnOk result ((columns : ℕ → List Ty) → joins_of stores.new.tables.items ≡ joins_of stores.old.tables.items ++ built (exact_over columns) breaker given.types.items) }
     ensures typed { OnOk result (AreTypedAs stores.new.types.items stores.new.streams.items) }
-    ensures rows { OnOk result ((streams : List (Stream Row)) → AreStreams streams stores.old.streams.items → AreStreams (streams ++ gathered breaker (stream_of given.pieces.items) ∷ []) stores.new.streams.items) }
-    ensures tables { OnOk result ((inputs : Tables) → tables_seen stores.new.tables.items ≡ tables_seen stores.old.tables.items ++ built (rows_over inputs) breaker (stream_of given.pieces.items)) }
+    ensures rows { OnOk result ((rows : Stream Row) → ArePartsOf breaker given.types.items rows given.parts.items → (streams : List (Stream Row)) → AreStreams streams stores.old.streams.items
+        → AreStreams (streams ++ gathered breaker rows ∷ []) stores.new.streams.items) }
+    ensures tables { OnOk result ((rows : Stream Row) → ArePartsOf breaker given.types.items rows given.parts.items
+        → (inputs : Tables) → tables_seen stores.new.tables.items ≡ tables_seen stores.old.tables.items ++ built (rows_over inputs) breaker rows) }
 {
     match breaker {
         Breaker::Build(join) => {
@@ -198,17 +210,19 @@ fn close_pipe(
 fn gather_other(
     alloc: Global,
     breaker: Breaker,
-    given: Through,
+    given: Flowed,
     stores: &mut Stores,
 ) -> Result<(), NoMemory>
     requires over { IsBreakerOver given.types.items breaker }
-    requires input { IsInput given.types.items given.pieces.items }
+    requires parts { HaveParts breaker given.types.items given.parts.items }
     requires typed { AreTypedAs stores.old.types.items stores.old.streams.items }
     ensures types { OnOk result (stores.new.types.items ≡ stores.old.types.items ++ gathered_types breaker given.types.items ∷ []) }
     ensures joins { OnOk result ((columns : ℕ → List Ty) → joins_of stores.new.tables.items ≡ joins_of stores.old.tables.items ++ built (exact_over columns) breaker given.types.items) }
     ensures typed { OnOk result (AreTypedAs stores.new.types.items stores.new.streams.items) }
-    ensures rows { OnOk result ((streams : List (Stream Row)) → AreStreams streams stores.old.streams.items → AreStreams (streams ++ gathered breaker (stream_of given.pieces.items) ∷ []) stores.new.streams.items) }
-    ensures tables { OnOk result ((inputs : Tables) → tables_seen stores.new.tables.items ≡ tables_seen stores.old.tables.items ++ built (rows_over inputs) breaker (stream_of given.pieces.items)) }
+    ensures rows { OnOk result ((rows : Stream Row) → ArePartsOf breaker given.types.items rows given.parts.items → (streams : List (Stream Row)) → AreStreams streams stores.old.streams.items
+        → AreStreams (streams ++ gathered breaker rows ∷ []) stores.new.streams.items) }
+    ensures tables { OnOk result ((rows : Stream Row) → ArePartsOf breaker given.types.items rows given.parts.items
+        → (inputs : Tables) → tables_seen stores.new.tables.items ≡ tables_seen stores.old.tables.items ++ built (rows_over inputs) breaker rows) }
 {
     if is_build(&breaker) {
         return Err(NoMemory);
@@ -234,20 +248,21 @@ fn is_build(breaker: &Breaker) -> bool
 fn gather_rows(
     alloc: Global,
     breaker: &Breaker,
-    given: Through,
+    given: Flowed,
     stores: &mut Stores,
 ) -> Result<(), NoMemory>
     requires over { IsBreakerOver given.types.items breaker.now }
-    requires input { IsInput given.types.items given.pieces.items }
+    requires parts { HaveParts breaker.now given.types.items given.parts.items }
     requires typed { AreTypedAs stores.old.types.items stores.old.streams.items }
     ensures types { OnOk result (stores.new.types.items ≡ stores.old.types.items ++ gathered_types breaker.now given.types.items ∷ []) }
     ensures typed { OnOk result (AreTypedAs stores.new.types.items stores.new.streams.items) }
-    ensures rows { OnOk result ((streams : List (Stream Row)) → AreStreams streams stores.old.streams.items → AreStreams (streams ++ gathered breaker.now (stream_of given.pieces.items) ∷ []) stores.new.streams.items) }
+    ensures rows { OnOk result ((rows : Stream Row) → ArePartsOf breaker.now given.types.items rows given.parts.items → (streams : List (Stream Row)) → AreStreams streams stores.old.streams.items
+        → AreStreams (streams ++ gathered breaker.now rows ∷ []) stores.new.streams.items) }
     ensures tables { OnOk result (stores.new.tables.items ≡ stores.old.tables.items) }
 {
-    let Through { pieces, types } = given;
+    let Flowed { parts, types } = given;
     let stored = types_gathered(alloc, breaker, &types)?;
-    let pieces = gather(alloc, breaker, &types, pieces)?;
+    let pieces = gather(alloc, breaker, &types, parts)?;
     stores.push(stored, pieces)?;
     Ok(())
 }
@@ -256,21 +271,23 @@ fn gather_rows(
 fn build_table(
     alloc: Global,
     join: JoinSpec,
-    given: Through,
+    given: Flowed,
     stores: &mut Stores,
 ) -> Result<(), NoMemory>
     requires over { AreAll given.types.items join.right.items }
-    requires input { IsInput given.types.items given.pieces.items }
+    requires parts { HaveParts (breakers.Build join) given.types.items given.parts.items }
     requires typed { AreTypedAs stores.old.types.items stores.old.streams.items }
     ensures types { OnOk result (stores.new.types.items ≡ stores.old.types.items ++ given.types.items ∷ []) }
     ensures joins { OnOk result (joins_of stores.new.tables.items ≡ joins_of stores.old.tables.items ++ Some join ∷ []) }
     ensures typed { OnOk result (AreTypedAs stores.new.types.items stores.new.streams.items) }
-    ensures rows { OnOk result ((streams : List (Stream Row)) → AreStreams streams stores.old.streams.items → AreStreams (streams ++ ended (stream_of given.pieces.items).end ∷ []) stores.new.streams.items) }
-    ensures tables { OnOk result (tables_seen stores.new.tables.items ≡ tables_seen stores.old.tables.items ++ table_of join (stream_of given.pieces.items) ∷ []) }
+    ensures rows { OnOk result ((rows : Stream Row) → ArePartsOf (breakers.Build join) given.types.items rows given.parts.items → (streams : List (Stream Row)) → AreStreams streams stores.old.streams.items
+        → AreStreams (streams ++ ended rows.end ∷ []) stores.new.streams.items) }
+    ensures tables { OnOk result ((rows : Stream Row) → ArePartsOf (breakers.Build join) given.types.items rows given.parts.items
+        → tables_seen stores.new.tables.items ≡ tables_seen stores.old.tables.items ++ table_of join rows ∷ []) }
 {
-    let Through { pieces, types } = given;
-    let end = end_alone(alloc, &types, &pieces)?;
-    let built = build(alloc, join, &types, pieces)?;
+    let Flowed { parts, types } = given;
+    let built = build(alloc, join, &types, parts)?;
+    let end = ended_alone(alloc, &types, built.broken)?;
     stores.push(types, end)?;
     stores.tables.push(built)?;
     Ok(())

@@ -3,13 +3,12 @@ ghost use Rattle.std.specs.Prelude.{◌≡◌, ◌≤◌, All, List, map, sum_by
 ghost use Rattle.sub_types.specs.Stream.{Stream, glue};
 ghost use Rattle.world.specs.Counts.{HasCause};
 ghost use Rattle.run_core.specs.Receipts.{lists_of, IsBalanced};
-ghost use Rattle.batch.specs.BatchRows.{stream_of_piece};
 ghost use Rattle.plan_denote.specs.Rows.{Row};
 ghost use Rattle.plan_pipes.specs.Run.{through};
 ghost use Rattle.plan_pipes.specs.RowMeaning.{row_steps};
 ghost use Rattle.pipe_types.specs.Exact.{exact_steps};
-ghost use Rattle.pipe_steps.specs.Behind.{IsStored};
 ghost use Rattle.pipe_steps.specs.Tables.{joins_of, tables_seen};
+ghost use Rattle.pipe_parts.specs.Parts.{ArePartsOf};
 ghost use Rattle.block_source.specs.Bodies.{AreReadOnce};
 ghost use Rattle.block_source.specs.Seen.{AreHeads};
 ghost use Rattle.table_rows.specs.Blocks.{HaveKinds};
@@ -25,9 +24,9 @@ use std::sync::Wait;
 use std::thread::Threads;
 use world::{FolderError, Gate, Reader};
 
-/// What the steps give over all blocks of the table, up to the first fault, read and worked by so many workers, whatever their turns
-/// are. Each block is claimed once, and read by the reader of its file, one for each. A failed read is an error only where no fault
-/// stands before it.
+/// What is kept for the pipeline's breaker of what the steps give over all blocks of the table, up to the first fault, read and worked by
+/// so many workers, whatever their turns are. Each block is claimed once, and read by the reader of its file, one for each. A failed read
+/// is an error only where no fault stands before it.
 pub fn run_table<H: Threads + Wait + Sync, R: Reader + Send, G: Gate>(
     rt: &H,
     alloc: Global,
@@ -45,10 +44,10 @@ pub fn run_table<H: Threads + Wait + Sync, R: Reader + Send, G: Gate>(
     ensures workers { IfOk result (λ r. vec_len r.receipts ≡ workers) }
     ensures balanced { IfOk result (λ r. IsBalanced (vec_len steps.now.table.now.places) (map lists_of r.receipts.items) r.left.items) }
 
-    // What is given is what the steps give over all blocks, which are those of the files where their bytes are told.
-    ensures stream { IfOk result (λ r. (input : List (Stream Row)) × AreBlocks steps.now (map R.bytes readers.old.items) steps.now.table.now.places.items input
-        × (glue (map stream_of_piece r.pieces.items) ≡ through row_steps (tables_seen steps.now.pipe.now.tables) steps.now.pipe.now.steps (glue input))) }
-    ensures stored { IfOk result (λ r. All (IsStored (through exact_steps (joins_of steps.now.pipe.now.tables) steps.now.pipe.now.steps steps.now.pipe.now.types)) r.pieces.items) }
+    // The parts are of what the steps give over all blocks, which are those of the files where their bytes are told.
+    ensures parts { IfOk result (λ r. (input : List (Stream Row)) × AreBlocks steps.now (map R.bytes readers.old.items) steps.now.table.now.places.items input
+        × ArePartsOf steps.now.pipe.now.breaker (through exact_steps (joins_of steps.now.pipe.now.tables) steps.now.pipe.now.steps steps.now.pipe.now.types)
+        (through row_steps (tables_seen steps.now.pipe.now.tables) steps.now.pipe.now.steps (glue input)) r.parts.items) }
 
     // Over all workers the body of each good block is read once.
     ensures reads { OnOk result (AreReadOnce steps.now.table.now.files.items (map R.reads readers.old.items) (map R.reads readers.new.items)) }
@@ -70,8 +69,8 @@ pub fn run_table<H: Threads + Wait + Sync, R: Reader + Send, G: Gate>(
         outs,
     } = round;
     match settle_pieces(alloc, steps.pipe, outs) {
-        Ok(pieces) => Ok(PipeRound {
-            pieces,
+        Ok(parts) => Ok(PipeRound {
+            parts,
             receipts,
             left,
         }),

@@ -8,4 +8,4 @@ use Rattle.block_work.proofs.pieces.no_rows.Goals as goal
 pub join_batches-requires-clause-kinds : goal.join_batches-requires-clause-kinds
 join_batches-requires-clause-kinds c =
     let pipe = c.pipe.inside in
-    kinds_over (joins_of pipe.tables.now) pipe.types.now pipe.steps.now (subst StartsWithRead (sym (ap (λ (way : StepsSeen). way.steps) c.pipe.view_is)) c.requires) c.pipe.invariant
+    kinds_over (joins_of pipe.tables.now) pipe.types.now pipe.steps.now (subst StartsWithRead (sym (ap (λ (way : StepsSeen). way.steps) c.pipe.view_is)) c.requires) c.pipe.invariant.0

@@ -1,5 +1,5 @@
 use Rattle.std.proofs.Common.{arith}
-use Rattle.table_engine.specs.Inputs.{gathered_stream}
+use Rattle.plan_rounds.specs.Inputs.{gathered_stream}
 use Rattle.gather_plans.proofs.CloseLaws.{given_back}
 use Rattle.gather_plans.proofs.FileLaws.{all_open, inputs_are, rows_over}
 use Rattle.gather_plans.proofs.gather.gather_plan.Goals as goal

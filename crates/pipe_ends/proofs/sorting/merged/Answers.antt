@@ -8,7 +8,8 @@ use Rattle.batch.specs.declared.batch.Batch.{Batch}
 use Rattle.batch.specs.BatchRows.{rows_of}
 use Rattle.plan_pipes.specs.RowMeaning.{sorted_by}
 use Rattle.sort_merge.specs.RowOrder.{in_order}
-use Rattle.pipe_ends.proofs.SortLaws.{columns_of_all, run_is, no_items, none_in_order}
+use Rattle.pipe_parts.proofs.RunLaws.{run_is}
+use Rattle.pipe_ends.proofs.SortLaws.{columns_of_all, no_items, none_in_order}
 use Rattle.pipe_ends.proofs.sorting.merged.Goals as goal
 
 pub returns-then-is_empty-clause-rows : goal.returns-then-is_empty-clause-rows

@@ -6,7 +6,7 @@ use Rattle.plan_pipes.specs.Run.{through}
 use Rattle.plan_pipes.specs.RowMeaning.{row_steps}
 use Rattle.pipe_types.specs.Exact.{exact_steps}
 use Rattle.pipe_steps.specs.Tables.{joins_of, tables_seen}
-use Rattle.set_rels.specs.Inputs.{stream_of}
+use Rattle.pipe_parts.specs.Parts.{ArePartsOf}
 use Rattle.pipe_work.specs.Pipe.{StepsSeen}
 use Rattle.open_blocks.specs.Files.{FilesSeen, AreOpenFor, files_at, files_seen}
 use Rattle.read_rounds.specs.Told.{TellsRows}
@@ -20,7 +20,9 @@ read_counted-requires-clause-open g c κs within =
 pub returns-clause-stored : goal.returns-clause-stored
 returns-clause-stored g c = subst (λ (pipe : StepsSeen). c.in_ok-given.given.types.items ≡ through exact_steps (joins_of pipe.tables) pipe.steps pipe.types) c.new-pipe.ensures.seen c.in_ok-given.ensures.stored
 
-pub returns-clause-rows : goal.returns-clause-rows
-returns-clause-rows g c =
+pub returns-clause-parts : goal.returns-clause-parts
+returns-clause-parts g c =
     let found = files_at c.args.relation (map (files_seen g.R.Reader.bytes) c.args.files.now.items) in
-    subst (λ (pipe : StepsSeen). (input : Stream Row) × TellsRows found input × (stream_of c.in_ok-given.given.pieces.items ≡ through row_steps (tables_seen pipe.tables) pipe.steps input)) c.new-pipe.ensures.seen c.in_ok-given.ensures.rows
+    let given = c.in_ok-given.given in
+    subst (λ (pipe : StepsSeen). (input : Stream Row) × TellsRows found input × ArePartsOf pipe.breaker given.types.items (through row_steps (tables_seen pipe.tables) pipe.steps input) given.parts.items) c.new-pipe.ensures.seen
+    c.in_ok-given.ensures.parts

@@ -7,7 +7,7 @@ use Rattle.plan_denote.specs.Eval.{eval}
 use Rattle.plan_denote.specs.Read.{virtual_rows}
 use Rattle.plan_pipes.specs.Run.{through}
 use Rattle.pipe_types.specs.Exact.{exact_steps}
-use Rattle.pipe_types.specs.Over.{AreStepsOver}
+use Rattle.pipe_types.specs.Over.{AreStepsOver, IsBreakerOver}
 use Rattle.pipe_steps.specs.Tables.{joins_of}
 use Rattle.cut_laws.specs.Found.{ReadRel, types_read}
 use Rattle.read_sources.specs.Seen.{read_seen}
@@ -28,6 +28,14 @@ flow_named-requires-clause-open g c κs within =
 pub flow_named-requires-clause-over : goal.flow_named-requires-clause-over
 flow_named-requires-clause-over g c κs within = subst (λ (found : Option ReadRel). AreStepsOver (joins_of c.args.tables.now) (types_read found) c.args.steps.now) (sym c.in-Some.ensures) c.requires.over
 
+pub flow_named-requires-clause-breaker : goal.flow_named-requires-clause-breaker
+flow_named-requires-clause-breaker g c κs within =
+    subst (λ (found : Option ReadRel). IsBreakerOver (through exact_steps (joins_of c.args.tables.now) c.args.steps.now (types_read found)) c.args.breaker.now) (sym c.in-Some.ensures) c.requires.breaker
+
+pub flow_virtual-requires-clause-breaker : goal.flow_virtual-requires-clause-breaker
+flow_virtual-requires-clause-breaker g c κs within =
+    subst (λ (found : Option ReadRel). IsBreakerOver (through exact_steps (joins_of c.args.tables.now) c.args.steps.now (types_read found)) c.args.breaker.now) (sym c.in-Some.ensures) c.requires.breaker
+
 pub flow_virtual-requires-clause-over : goal.flow_virtual-requires-clause-over
 flow_virtual-requires-clause-over g c κs within = subst (λ (found : Option ReadRel). AreStepsOver (joins_of c.args.tables.now) (types_read found) c.args.steps.now) (sym c.in-Some.ensures) c.requires.over
 
@@ -41,10 +49,10 @@ flow_virtual-requires-clause-source g c κs within =
 pub returns-in_ok-of_files-in-Named-clause-stored : goal.returns-in_ok-of_files-in-Named-clause-stored
 returns-in_ok-of_files-in-Named-clause-stored g c = c.in_ok-of_files-in-Named.ensures.stored ∙ ap (through exact_steps (joins_of c.args.tables.now) c.args.steps.now) (ap types_read c.in-Some.ensures)
 
-pub returns-in_ok-of_files-in-Named-clause-rows : goal.returns-in_ok-of_files-in-Named-clause-rows
-returns-in_ok-of_files-in-Named-clause-rows g c =
+pub returns-in_ok-of_files-in-Named-clause-parts : goal.returns-in_ok-of_files-in-Named-clause-parts
+returns-in_ok-of_files-in-Named-clause-parts g c =
     let files = map (files_seen g.R.Reader.bytes) c.args.files.now.items in
-    let r = c.in_ok-of_files-in-Named.ensures.rows in
+    let r = c.in_ok-of_files-in-Named.ensures.parts in
     (r.0, read_here files c.args.relation (reads_seen c.args.reads.now) (read_seen c.in-Some.read) _ r.0 c.in-Some.ensures c.in-Named.is r.1, r.2)
 
 pub returns-in_ok-of_files-in-Named-clause-receipts : goal.returns-in_ok-of_files-in-Named-clause-receipts
@@ -58,13 +66,13 @@ returns-in_ok-of_files-in-Named-clause-receipts g c =
 pub returns-in_ok-of_plan-in-Rows-clause-stored : goal.returns-in_ok-of_plan-in-Rows-clause-stored
 returns-in_ok-of_plan-in-Rows-clause-stored g c = c.in_ok-of_plan-in-Rows.ensures.stored ∙ ap (through exact_steps (joins_of c.args.tables.now) c.args.steps.now) (ap types_read c.in-Some.ensures)
 
-pub returns-in_ok-of_plan-in-Rows-clause-rows : goal.returns-in_ok-of_plan-in-Rows-clause-rows
-returns-in_ok-of_plan-in-Rows-clause-rows g c =
+pub returns-in_ok-of_plan-in-Rows-clause-parts : goal.returns-in_ok-of_plan-in-Rows-clause-parts
+returns-in_ok-of_plan-in-Rows-clause-parts g c =
     let files = map (files_seen g.R.Reader.bytes) c.args.files.now.items in
     let given = virtual_rows c.args.relation (map (map eval) c.as_slice.result.now) in (
       given,
       read_here files c.args.relation (reads_seen c.args.reads.now) (read_seen c.in-Some.read) (sources.Rows c.in-Rows.rows) given c.in-Some.ensures c.in-Rows.is (ap (λ (rows : List (List Expr)). virtual_rows c.args.relation (map (map eval) rows)) c.as_slice.ensures),
-      c.in_ok-of_plan-in-Rows.ensures.rows,
+      c.in_ok-of_plan-in-Rows.ensures.parts,
     )
 
 pub returns-in_ok-of_plan-in-Rows-clause-receipts : goal.returns-in_ok-of_plan-in-Rows-clause-receipts

@@ -13,16 +13,9 @@ settle_pieces-requires g c =
       marks = settled_marks pipe (map (λ (held : HeldPiece). stream_of_piece held.piece) pieces) round.round.outs.items (settled_all pipe pieces round.round.outs.items c.requires.of_pipe round.ensures.numbers round.ensures.made);
     }
 
-pub returns-clause-stream : goal.returns-clause-stream
-returns-clause-stream g c =
+pub returns-clause-parts : goal.returns-clause-parts
+returns-clause-parts g c =
     let pipe = c.args.pipe.now in
     let pieces = c.args.pieces.now in
     let round = c.in_ok-round in
-    c.in-Ok.ensures.stream (map (λ (held : HeldPiece). stream_of_piece held.piece) pieces) (settled_all pipe pieces round.round.outs.items c.requires.of_pipe round.ensures.numbers round.ensures.made)
-
-pub returns-clause-stored : goal.returns-clause-stored
-returns-clause-stored g c =
-    let pipe = c.args.pipe.now in
-    let pieces = c.args.pieces.now in
-    let round = c.in_ok-round in
-    c.in-Ok.ensures.stored (map (λ (held : HeldPiece). stream_of_piece held.piece) pieces) (settled_all pipe pieces round.round.outs.items c.requires.of_pipe round.ensures.numbers round.ensures.made)
+    c.in-Ok.ensures.parts (map (λ (held : HeldPiece). stream_of_piece held.piece) pieces) (settled_all pipe pieces round.round.outs.items c.requires.of_pipe round.ensures.numbers round.ensures.made)

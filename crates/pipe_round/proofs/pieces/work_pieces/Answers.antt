@@ -6,8 +6,7 @@ use Rattle.pipe_labour.proofs.labour.PipeLabour.TheSendSync as labour_sent
 use Rattle.piece_source.proofs.pieces.PieceSource.TheSendSync as source_sent
 use Rattle.piece_source.specs.Pieces.{IsPieceAt}
 use Rattle.round_end.proofs.outcome.Outcome.TheSendSync as outcome_sent
-use Rattle.pipe_work.proofs.Crosses.{held_row}
-use Rattle.pipe_work.proofs.passed.Passed.TheSendSync as passed_sent
+use Rattle.pipe_work.proofs.Crosses.{held_row, kept_row}
 use Rattle.pipe_work.proofs.work.PieceWork.TheSendSync as work_sent
 use Rattle.pipe_round.proofs.pieces.work_pieces.Goals as goal
 
@@ -22,4 +21,7 @@ run_round-requires-send-T g c κs within = search (item_sent.the_send, option_se
 
 pub run_round-requires-send-L : goal.run_round-requires-send-L
 run_round-requires-send-L g c κs within =
-    search (labour_sent.the_send, source_sent.the_send, work_sent.the_send, outcome_sent.the_send, passed_sent.the_send, held_row, arg_send, param_send, copied_send) depth 12
+    search (labour_sent.the_send, source_sent.the_send, work_sent.the_send, outcome_sent.the_send, kept_row, held_row, arg_send, param_send, copied_send) depth 12
+
+pub run_round-requires-send-L-Out : goal.run_round-requires-send-L-Out
+run_round-requires-send-L-Out g c κs within = search (item_sent.the_send, outcome_sent.the_send, kept_row, arg_send, param_send, copied_send) depth 12

@@ -9,9 +9,7 @@ use Rattle.cut_laws.specs.Found.{read_rels}
 use Rattle.cut_laws.specs.Reads.{reads_of}
 use Rattle.open_blocks.specs.Files.{files_seen}
 use Rattle.open_blocks.specs.Taken.{Adds}
-use Rattle.pipe_flows.specs.Inputs.{IsOpenFor}
-use Rattle.pipe_flows.specs.Receipts.{IsReceiptAt}
-use Rattle.table_engine.specs.Inputs.{gathered_stream}
+use Rattle.table_engine.specs.Inputs.{IsOpenFor, IsReceiptAt, gathered_stream}
 use Rattle.plan_rounds.specs.Inputs.{AreRowsOf}
 use Rattle.plan_rounds.proofs.run.rows_filled.Goals as goal
 

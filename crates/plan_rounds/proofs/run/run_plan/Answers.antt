@@ -9,7 +9,7 @@ use Rattle.cut_laws.specs.Reads.{reads_of}
 use Rattle.open_blocks.specs.Files.{FilesSeen, files_seen}
 use Rattle.open_blocks.specs.Taken.{Adds}
 use Rattle.piece_batches.specs.Ended.{ended_stream}
-use Rattle.pipe_flows.specs.Receipts.{IsReceiptAt}
+use Rattle.table_engine.specs.Inputs.{IsReceiptAt}
 use Rattle.plan_rows.specs.Seen.{all_seen}
 use Rattle.sub_query.specs.declared.worth.KnownWorth.{KnownWorth}
 use Rattle.sub_query.specs.Known.{known_seen}

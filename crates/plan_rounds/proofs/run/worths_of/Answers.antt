@@ -5,7 +5,7 @@ use Rattle.cut_laws.specs.Found.{read_rels}
 use Rattle.cut_laws.specs.Reads.{reads_of}
 use Rattle.open_blocks.specs.Files.{FilesSeen, files_seen}
 use Rattle.open_blocks.specs.Taken.{Adds}
-use Rattle.pipe_flows.specs.Receipts.{IsReceiptAt}
+use Rattle.table_engine.specs.Inputs.{IsReceiptAt}
 use Rattle.sub_query.specs.declared.worth.KnownWorth.{KnownWorth}
 use Rattle.sub_query.specs.Known.{found_seen, known_seen}
 use Rattle.plan_rounds.specs.Inputs.{IsWorthOf}

@@ -1,12 +1,9 @@
 use Rattle.std.proofs.Common.{◌≡◌, ℕ, List, map, subst}
 use Rattle.std.specs.Prelude.{IfOk}
-use Rattle.sub_types.specs.Stream.{Stream, glue}
-use Rattle.batch.specs.BatchRows.{stream_of_piece}
+use Rattle.sub_types.specs.Stream.{Stream}
 use Rattle.plan_denote.specs.Rows.{Row}
-use Rattle.plan_pipes.specs.Run.{through}
-use Rattle.plan_pipes.specs.RowMeaning.{row_steps}
-use Rattle.pipe_steps.specs.Tables.{tables_seen}
 use Rattle.open_blocks.specs.Files.{AllTell, stream_in}
+use Rattle.read_rounds.specs.Given.{ArePartsThrough}
 use Rattle.read_rounds.specs.Told.{parts_seen}
 use Rattle.read_rounds.specs.declared.round.FeedRound.{FeedRound}
 use Rattle.read_rounds.proofs.OpenLaws.{blocks_counted, open_count, open_numbers, parts_stay}
@@ -28,15 +25,15 @@ pub returns-clause-batches : goal.returns-clause-batches
 returns-clause-batches g c =
     subst (λ (n : ℕ). IfOk c.read_parts.result (λ (r : FeedRound). r.batches ≡ n)) (blocks_counted g.R.Reader.bytes c.args.pipe.now.types c.args.one.now c.requires.open) c.read_parts.ensures.batches
 
-pub returns-clause-rows : goal.returns-clause-rows
-returns-clause-rows g c =
+pub returns-clause-parts : goal.returns-clause-parts
+returns-clause-parts g c =
     let one = c.args.one.now in
     let pipe = c.args.pipe.now in
     let bytes = map g.R.Reader.bytes one.readers.items in
     subst
     (λ (numbers : List ℕ). IfOk c.read_parts.result (λ (r : FeedRound). (given : Stream Row) × (AllTell bytes → given ≡ stream_in (parts_seen one.relation one.blocks.files.items numbers bytes))
-    × (glue (map stream_of_piece r.pieces.items) ≡ through row_steps (tables_seen pipe.tables) pipe.steps given)))
-    c.deref.ensures.value c.read_parts.ensures.rows
+    × ArePartsThrough pipe given r.parts.items))
+    c.deref.ensures.value c.read_parts.ensures.parts
 
 pub returns-clause-seen : goal.returns-clause-seen
 returns-clause-seen g c =

@@ -1,10 +1,10 @@
-use Rattle.std.proofs.Common.{◌≡◌, ◌∙◌, ℕ, length, map, sym, ap, subst, arith}
+use Rattle.std.proofs.Common.{◌≡◌, ◌∙◌, ℕ, length, map, sym, subst, arith}
 use Rattle.std.specs.List.{All}
 use Rattle.run_core.specs.Receipts.{lists_of, IsBalanced}
-use Rattle.plan_pipes.specs.Run.{through}
-use Rattle.plan_pipes.specs.RowMeaning.{row_steps}
-use Rattle.pipe_steps.specs.Tables.{tables_seen}
+use Rattle.sub_types.specs.Stream.{Stream}
+use Rattle.plan_denote.specs.Rows.{Row}
 use Rattle.pipe_work.specs.declared.held.HeldPiece.{HeldPiece}
+use Rattle.read_rounds.specs.Given.{ArePartsThrough}
 use Rattle.read_rounds.proofs.HeldLaws.{all_ready, all_typed, held_count, held_stream}
 use Rattle.read_rounds.proofs.pieces.pass_pieces.Goals as goal
 
@@ -31,8 +31,7 @@ returns-clause-balanced g c =
     let all : length c.deref.result.now ≡ c.in-Some.batches = many ∙ sym pieces.ok.0 ∙ sym c.in-Some.ensures.count in
     subst (λ (n : ℕ). IsBalanced n (map lists_of round.receipts.items) round.left.items) all c.in_ok-round.ensures.balanced
 
-pub returns-clause-rows : goal.returns-clause-rows
-returns-clause-rows g c =
-    let pipe = c.args.pipe.now in
-    c.in_ok-round.ensures.stream
-    ∙ ap (through row_steps (tables_seen pipe.tables) pipe.steps) (held_stream c.in_ok-held.held.items c.deref.result.now c.args.pieces.items c.deref.ensures.value c.in_ok-held.ensures.held)
+pub returns-clause-parts : goal.returns-clause-parts
+returns-clause-parts g c =
+    subst (λ (rows : Stream Row). ArePartsThrough c.args.pipe.now rows c.in_ok-round.round.parts.items) (held_stream c.in_ok-held.held.items c.deref.result.now c.args.pieces.items c.deref.ensures.value c.in_ok-held.ensures.held)
+    c.in_ok-round.ensures.parts

@@ -1,5 +1,5 @@
 use Rattle.std.proofs.Common.{◌∙◌, Ok, ap, sym}
-use Rattle.table_engine.specs.Inputs.{gathered_stream}
+use Rattle.gather_plans.specs.Over.{gathered_stream}
 use Rattle.run_accepted.proofs.DoneLaws.{ran_fault, ran_rows}
 use Rattle.run_accepted.proofs.rows.rows_of_gathered.Goals as goal
 

@@ -4,7 +4,7 @@ use Rattle.sub_types.specs.Stream.{Stream}
 use Rattle.batch.specs.BatchRows.{rows_of}
 use Rattle.plan_denote.specs.Rows.{Row}
 use Rattle.run_words.specs.ReadingSeen.{reading_seen}
-use Rattle.table_engine.specs.Inputs.{gathered_stream}
+use Rattle.gather_plans.specs.Over.{gathered_stream}
 use Rattle.run_accepted.specs.Done.{done_with, input_of}
 use Rattle.run_accepted.specs.Fits.{FitsFiles}
 use Rattle.run_accepted.proofs.AcceptedLaws.{accepted_few, accepted_names}

@@ -2,17 +2,17 @@ use Rattle.std.proofs.Common.{◌∙◌, ℕ, List, [], map, slice_index_or, ref
 use Rattle.sub_types.specs.declared.kind.Ty.{Ty}
 use Rattle.plan_pipes.specs.declared.pipe.Feed.{Feed}
 use Rattle.plan_pipes.specs.Run.{fed, flow, through}
+use Rattle.plan_pipes.specs.RowMeaning.{row_steps}
 use Rattle.pipe_types.specs.Exact.{exact_over, exact_steps}
-use Rattle.pipe_types.specs.Over.{AreStepsOver, IsFeedOver, IsSetOver}
-use Rattle.pipe_steps.specs.Tables.{joins_of}
+use Rattle.pipe_types.specs.Over.{AreStepsOver, IsBreakerOver, IsFeedOver, IsSetOver}
+use Rattle.pipe_steps.specs.Tables.{joins_of, tables_seen}
 use Rattle.pipe_steps.specs.declared.built.BuiltTable.{BuiltTable}
 use Rattle.cut_flows.specs.Given.{fed_by}
 use Rattle.open_blocks.proofs.AddedLaws.{adds_none}
 use Rattle.open_blocks.specs.Files.{files_seen}
 use Rattle.open_blocks.specs.Taken.{Adds}
 use Rattle.pipe_feeds.proofs.KeptLaws.{left_same}
-use Rattle.read_rounds.specs.Bodies.{reads_made}
-use Rattle.pipe_flows.specs.Bodies.{HaveReadInTurn}
+use Rattle.pipe_flows.specs.Bodies.{reads_made, HaveReadInTurn}
 use Rattle.pipe_flows.specs.Inputs.{columns_of, reads_seen}
 use Rattle.pipe_flows.specs.Receipts.{IsReceiptAt}
 use Rattle.table_engine.specs.Stands.{types_in}
@@ -26,6 +26,28 @@ flow_read-requires-clause-over g c κs within =
     let steps = c.args.steps.now in
     let here : AreStepsOver (joins_of stores.tables.items) (columns c.in-Read.relation) steps = subst (λ (feed : Feed). AreStepsOver (joins_of stores.tables.items) (fed (exact_over columns) stores.types.items feed) steps) c.in-Read.is c.requires.steps in
     subst (λ (all : List BuiltTable). AreStepsOver (joins_of all) (columns c.in-Read.relation) steps) (sym c.deref.ensures.value) here
+
+pub flow_read-requires-clause-breaker : goal.flow_read-requires-clause-breaker
+flow_read-requires-clause-breaker g c κs within =
+    let columns = columns_of (reads_seen c.args.reads.now) in
+    let steps = c.args.steps.now in
+    let breaker = c.args.breaker.now in
+    let here : IsBreakerOver (through exact_steps (joins_of c.args.stores.now.tables.items) steps (columns c.in-Read.relation)) breaker = subst (λ (feed : Feed). IsBreakerOver (flow (exact_over columns) (types_in c.args.stores.now) feed steps) breaker) c.in-Read.is c.requires.breaker in
+    subst (λ (all : List BuiltTable). IsBreakerOver (through exact_steps (joins_of all) steps (columns c.in-Read.relation)) breaker) (sym c.deref.ensures.value) here
+
+pub flow_stored-requires-clause-breaker : goal.flow_stored-requires-clause-breaker
+flow_stored-requires-clause-breaker g c κs within =
+    let columns = columns_of (reads_seen c.args.reads.now) in
+    subst (λ (feed : Feed). IsBreakerOver (flow (exact_over columns) (types_in c.args.stores.now) feed c.args.steps.now) c.args.breaker.now) c.in-Pipe.is c.requires.breaker
+
+pub flow_set-requires-clause-breaker : goal.flow_set-requires-clause-breaker
+flow_set-requires-clause-breaker g c κs within =
+    let columns = columns_of (reads_seen c.args.reads.now) in
+    let stores = c.args.stores.now in
+    let steps = c.args.steps.now in
+    let breaker = c.args.breaker.now in
+    let here : IsBreakerOver (through exact_steps (joins_of stores.tables.items) steps c.in-Set.types) breaker = subst (λ (feed : Feed). IsBreakerOver (flow (exact_over columns) (types_in stores) feed steps) breaker) c.in-Set.is c.requires.breaker in
+    subst (λ (types : List Ty). IsBreakerOver (through exact_steps (joins_of stores.tables.items) steps types) breaker) (sym c.as_slice-in-Set.ensures) here
 
 pub flow_stored-requires-clause-over : goal.flow_stored-requires-clause-over
 flow_stored-requires-clause-over g c κs within =
@@ -59,8 +81,14 @@ returns-in_ok-of_read-in-Read-clause-stored g c =
 pub returns-in_ok-of_read-in-Read-clause-rows : goal.returns-in_ok-of_read-in-Read-clause-rows
 returns-in_ok-of_read-in-Read-clause-rows g c =
     let files = map (files_seen g.R.Reader.bytes) c.args.files.now.items in
-    let r = c.in_ok-of_read-in-Read.ensures.rows in
-    read_flows files (reads_seen c.args.reads.now) c.args.feed.now c.args.steps.now c.args.stores.now c.in_ok-of_read-in-Read.of_read.pieces.items c.in-Read.relation c.deref.result.now r.0 c.in-Read.is c.deref.ensures.value r.1 r.2
+    let given = c.in_ok-of_read-in-Read.of_read in
+    let r = c.in_ok-of_read-in-Read.ensures.parts in
+    read_flows files (reads_seen c.args.reads.now) c.args.feed.now c.args.steps.now c.args.breaker.now c.args.stores.now given.types.items given.parts.items c.in-Read.relation c.deref.result.now r.0 c.in-Read.is c.deref.ensures.value r.1 r.2
+
+pub returns-in_ok-of_read-in-Read-clause-parts : goal.returns-in_ok-of_read-in-Read-clause-parts
+returns-in_ok-of_read-in-Read-clause-parts g c =
+    let r = c.in_ok-of_read-in-Read.ensures.parts in
+    (through row_steps (tables_seen c.deref.result.now) c.args.steps.now r.0, r.2)
 
 pub returns-in_ok-of_read-in-Read-clause-left : goal.returns-in_ok-of_read-in-Read-clause-left
 returns-in_ok-of_read-in-Read-clause-left g c = left_same c.args.stores.now.streams.items
@@ -78,7 +106,11 @@ returns-in_ok-of_pipe-in-Pipe-clause-stored g c =
 pub returns-in_ok-of_pipe-in-Pipe-clause-rows : goal.returns-in_ok-of_pipe-in-Pipe-clause-rows
 returns-in_ok-of_pipe-in-Pipe-clause-rows g c =
     let files = map (files_seen g.R.Reader.bytes) c.args.files.now.items in
-    stored_flows files (reads_seen c.args.reads.now) c.args.feed.now c.args.steps.now c.args.stores.now c.in_ok-of_pipe-in-Pipe.of_pipe.pieces.items c.in-Pipe.at c.in-Pipe.is c.in_ok-of_pipe-in-Pipe.ensures.rows
+    let given = c.in_ok-of_pipe-in-Pipe.of_pipe in
+    stored_flows files (reads_seen c.args.reads.now) c.args.feed.now c.args.steps.now c.args.breaker.now c.args.stores.now given.types.items given.parts.items c.in-Pipe.at c.in-Pipe.is c.in_ok-of_pipe-in-Pipe.ensures.rows
+
+pub returns-in_ok-of_pipe-in-Pipe-clause-parts : goal.returns-in_ok-of_pipe-in-Pipe-clause-parts
+returns-in_ok-of_pipe-in-Pipe-clause-parts g c = c.in_ok-of_pipe-in-Pipe.ensures.parts
 
 pub returns-in_ok-of_pipe-in-Pipe-clause-receipts : goal.returns-in_ok-of_pipe-in-Pipe-clause-receipts
 returns-in_ok-of_pipe-in-Pipe-clause-receipts g c =
@@ -97,7 +129,12 @@ pub returns-in_ok-of_set-in-Set-clause-rows : goal.returns-in_ok-of_set-in-Set-c
 returns-in_ok-of_set-in-Set-clause-rows g c =
     let files = map (files_seen g.R.Reader.bytes) c.args.files.now.items in
     let r = c.in-Set in
-    set_flows files (reads_seen c.args.reads.now) c.args.feed.now c.args.steps.now c.args.stores.now c.in_ok-of_set-in-Set.of_set.pieces.items r.op r.pipes c.as_slice.result.now r.types r.is c.as_slice.ensures c.in_ok-of_set-in-Set.ensures.rows
+    let given = c.in_ok-of_set-in-Set.of_set in
+    set_flows files (reads_seen c.args.reads.now) c.args.feed.now c.args.steps.now c.args.breaker.now c.args.stores.now given.types.items given.parts.items r.op r.pipes c.as_slice.result.now r.types r.is c.as_slice.ensures
+    c.in_ok-of_set-in-Set.ensures.rows
+
+pub returns-in_ok-of_set-in-Set-clause-parts : goal.returns-in_ok-of_set-in-Set-clause-parts
+returns-in_ok-of_set-in-Set-clause-parts g c = c.in_ok-of_set-in-Set.ensures.parts
 
 pub returns-in_ok-of_set-in-Set-clause-receipts : goal.returns-in_ok-of_set-in-Set-clause-receipts
 returns-in_ok-of_set-in-Set-clause-receipts g c =

@@ -2,7 +2,7 @@ use Rattle.std.proofs.Common.{◌∙◌, sym, ap}
 use Rattle.pipe_types.specs.Exact.{gathered_types}
 use Rattle.pipe_ends.specs.Given.{IsInput}
 use Rattle.plan_pipes.specs.RowMeaning.{gathered}
-use Rattle.set_rels.specs.Inputs.{stream_of}
+use Rattle.pipe_flows.proofs.FlowLaws.{parts_as}
 use Rattle.pipe_feeds.proofs.KeptLaws.{typed_more, streams_more}
 use Rattle.table_engine.proofs.GatherLaws.{input_as}
 use Rattle.table_engine.proofs.pipe.gather_rows.Goals as goal
@@ -18,5 +18,7 @@ returns-clause-typed c =
     typed_more old.types.items c.push.new.self.types.items old.streams.items c.push.new.self.streams.items stored pieces c.in_ok-push.ensures.types c.in_ok-push.ensures.streams c.requires.typed input
 
 pub returns-clause-rows : goal.returns-clause-rows
-returns-clause-rows c = λ streams are.
-    streams_more streams c.args.stores.now.streams.items c.push.new.self.streams.items (gathered c.args.breaker.now (stream_of c.args.given.pieces.items)) c.in_ok-pieces.pieces.items c.in_ok-push.ensures.streams are c.in_ok-pieces.ensures.stream
+returns-clause-rows c = λ rows are streams stand.
+    let breaker = c.args.breaker.now in
+    let own = parts_as breaker c.args.given.types.items c.deref-2.result.now rows c.args.given.parts.items c.deref-2.ensures.value are in
+    streams_more streams c.args.stores.now.streams.items c.push.new.self.streams.items (gathered breaker rows) c.in_ok-pieces.pieces.items c.in_ok-push.ensures.streams stand (c.in_ok-pieces.ensures.stream rows own)

@@ -9,6 +9,9 @@ close_pipe-requires-clause-over g c =
     let flows = c.in_ok-through.ensures in
     breaker_on c.args.stores.now c.flow_pipe.new.stores c.args.pipe flows.left flows.types flows.tables (columns_of (reads_seen c.args.reads.now)) c.in_ok-through.through.types.items flows.stored c.requires.over
 
+pub close_pipe-requires-clause-parts : goal.close_pipe-requires-clause-parts
+close_pipe-requires-clause-parts g c = c.in_ok-through.ensures.parts
+
 pub close_pipe-requires-clause-typed : goal.close_pipe-requires-clause-typed
 close_pipe-requires-clause-typed g c =
     let flows = c.in_ok-through.ensures in
@@ -25,5 +28,5 @@ pub returns-clause-rows : goal.returns-clause-rows
 returns-clause-rows g c =
     let flows = c.in_ok-through.ensures in
     let closes = c.in_ok-close_pipe.ensures in
-    ran_pipe c.args.stores.now c.flow_pipe.new.stores c.args.pipe flows.left flows.types flows.tables (map (files_seen g.R.Reader.bytes) c.args.files.now.items) (reads_seen c.args.reads.now) c.close_pipe.new.stores
-    c.in_ok-through.through.pieces.items flows.rows closes.rows closes.tables
+    ran_pipe c.args.stores.now c.flow_pipe.new.stores c.args.pipe flows.left flows.types flows.tables c.close_pipe.new.stores c.in_ok-through.through.types.items c.in_ok-through.through.parts.items closes.rows closes.tables
+    (map (files_seen g.R.Reader.bytes) c.args.files.now.items) (reads_seen c.args.reads.now) flows.rows

@@ -10,8 +10,7 @@ use Rattle.open_blocks.specs.Taken.{Adds}
 use Rattle.pipe_flows.specs.Inputs.{reads_seen, IsOpenFor}
 use Rattle.pipe_flows.specs.Receipts.{IsReceiptAt}
 use Rattle.table_engine.specs.Stands.{HasRunPipe}
-use Rattle.read_rounds.specs.Bodies.{reads_made}
-use Rattle.pipe_flows.specs.Bodies.{HaveReadInTurn}
+use Rattle.pipe_flows.specs.Bodies.{reads_made, HaveReadInTurn}
 use Rattle.table_engine.proofs.BodyLaws.{HaveReadSo, all_read, reads_begin, reads_go_on}
 use Rattle.table_engine.proofs.ErrorLaws.{error_same}
 use Rattle.table_engine.proofs.RunLaws.{IsRunning, run_begins, run_goes_on, next_over, run_ends, have_run, all_receipts}

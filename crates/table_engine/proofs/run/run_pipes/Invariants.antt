@@ -2,7 +2,7 @@ use Rattle.std.proofs.Common.{◌≡◌, ◌≤◌, map}
 use Rattle.std.specs.Vec.Iter.{into_iter_items}
 use Rattle.open_blocks.specs.Files.{faults_of, files_seen}
 use Rattle.pipe_flows.specs.Inputs.{reads_seen}
-use Rattle.read_rounds.specs.Bodies.{reads_made}
+use Rattle.pipe_flows.specs.Bodies.{reads_made}
 use Rattle.table_engine.proofs.BodyLaws.{HaveReadSo}
 use Rattle.table_engine.proofs.RunLaws.{IsRunning}
 use Rattle.table_engine.proofs.run.run_pipes.Given as goal

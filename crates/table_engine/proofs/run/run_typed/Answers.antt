@@ -14,8 +14,7 @@ use Rattle.open_blocks.specs.Files.{files_seen}
 use Rattle.open_blocks.proofs.AddedLaws.{all_added}
 use Rattle.pipe_flows.specs.Inputs.{reads_seen}
 use Rattle.fed_laws.proofs.CountLaws.{reads_differ}
-use Rattle.read_rounds.specs.Bodies.{reads_made}
-use Rattle.pipe_flows.specs.Bodies.{HaveReadInTurn}
+use Rattle.pipe_flows.specs.Bodies.{reads_made, HaveReadInTurn}
 use Rattle.pipe_flows.specs.Receipts.{IsReceiptAt}
 use Rattle.table_engine.proofs.BodyLaws.{bodies_read}
 use Rattle.table_engine.proofs.EndLaws.{reads_typed, reads_open, pipes_ready, rows_are, rows_fit, kinds_are, kinds_in}

@@ -1,0 +1,10 @@
+// What comes through steps.
+use pipe_parts::Part;
+use sub_types::Ty;
+
+/// What is kept of what comes through the steps of a pipeline, in parts in order, and the types that it is stored with.
+#[derive(Drop)]
+pub struct Flowed {
+    pub parts: Vec<Part>,
+    pub types: Vec<Ty>,
+}
