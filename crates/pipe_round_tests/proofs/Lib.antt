@@ -1,3 +1,4 @@
+mod BreakerLaws
 mod SpecLaws
 mod StepLaws
 mod TableLaws

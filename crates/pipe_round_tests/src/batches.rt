@@ -3,7 +3,9 @@ ghost use Rattle.std.specs.Prelude.{◌≡◌, ◌<◌, ◌∷◌, [], IfOk};
 ghost use Rattle.batch.specs.BatchRows.{types_of};
 
 use crate::random::Random;
+use crate::rows::Rows;
 use batch::{Batch, Column, ColumnBuilder, Piece};
+use plan_leaves::Items;
 use std::alloc::Global;
 use sub_types::{Fault, FaultKind, Kind, NoMemory, Ty, Value};
 
@@ -74,6 +76,48 @@ fn push_number(builder: &mut ColumnBuilder, number: i64) -> Result<(), NoMemory>
         builder.push(&Value::Null)
     } else {
         builder.push(&Value::Int(number))
+    }
+}
+
+// Rows of two numbers as one piece.
+pub(crate) fn piece_of(alloc: Global, rows: &Rows) -> Result<Piece, NoMemory>
+    ensures { IfOk result (λ piece. types_of piece.batch ≡ NUMBER ∷ NUMBER ∷ []) }
+{
+    let first = column_of(alloc, rows.rows.as_slice(), 0)?;
+    let second = column_of(alloc, rows.rows.as_slice(), 1)?;
+    let batch = batch_of(alloc, first, second)?;
+    Ok(Piece {
+        batch,
+        end: rows.end,
+    })
+}
+
+// The numbers at one place of each row.
+fn column_of(alloc: Global, rows: &[Items<Value>], place: usize) -> Result<Column, NoMemory>
+    ensures { IfOk result (λ column. column.ty ≡ NUMBER) }
+{
+    let mut builder = ColumnBuilder::new(alloc, NUMBER);
+    for row in rows {
+        push_at(&mut builder, row.as_slice(), place)?;
+    }
+    Ok(builder.finish())
+}
+
+// Adds the number or null at a place.
+fn push_at(builder: &mut ColumnBuilder, row: &[Value], place: usize) -> Result<(), NoMemory>
+    requires { builder.old.ty ≡ NUMBER }
+    ensures { builder.new.ty ≡ builder.old.ty }
+{
+    if row.len() <= place {
+        return Err(NoMemory);
+    }
+    match &row[place] {
+        Value::Null => builder.push(&Value::Null),
+        Value::Int(number) => {
+            let number = *number;
+            builder.push(&Value::Int(number))
+        }
+        _ => Err(NoMemory),
     }
 }
 

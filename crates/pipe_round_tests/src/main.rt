@@ -1,8 +1,10 @@
-// Random pipelines by many workers, each against the same pipeline by one call over the same pieces (`pipe_steps`): its steps read two
-// columns of numbers, change their places and join them with tables of every kind. Pieces, tables and the rests of joins end in faults.
+// Random pipelines by many workers, each against the same pipeline by one call over the same pieces (`pipe_steps`) and one worker at its
+// breaker: its steps read two columns of numbers, change their places and join them with tables of every kind, and at its end the rows
+// stay, are fetched, sorted or grouped. Pieces, tables and the rests of joins end in faults.
 #![tactic(auto)]
 
 mod batches;
+mod breakers;
 mod joins;
 mod random;
 mod rows;

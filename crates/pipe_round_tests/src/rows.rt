@@ -8,8 +8,8 @@ use sub_types::{Fault, NoMemory, Value};
 /// Rows and the fault behind them, if there is one.
 #[derive(Drop)]
 pub(crate) struct Rows {
-    rows: Items<Items<Value>>,
-    end: Option<Fault>,
+    pub(crate) rows: Items<Items<Value>>,
+    pub(crate) end: Option<Fault>,
 }
 
 impl Rows {

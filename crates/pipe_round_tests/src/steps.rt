@@ -29,6 +29,15 @@ pub(crate) fn random_steps(
     Ok(steps)
 }
 
+/// A read relation's step alone.
+pub(crate) fn read_alone(alloc: Global, tables: &[BuiltTable]) -> Result<Vec<Step>, NoMemory>
+    ensures { IfOk result (λ steps. AreSteps (joins_of tables.now) steps.items) }
+{
+    let mut steps = Vec::new(alloc);
+    push_read(alloc, tables, &mut steps)?;
+    Ok(steps)
+}
+
 fn push_read(alloc: Global, tables: &[BuiltTable], steps: &mut Vec<Step>) -> Result<(), NoMemory>
     requires { steps.old.items ≡ [] }
     ensures { OnOk result (AreSteps (joins_of tables.now) steps.new.items) }

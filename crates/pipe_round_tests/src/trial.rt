@@ -1,19 +1,22 @@
 // One random pipeline after another.
 ghost use Rattle.std.specs.Prelude.{◌≡◌, ◌≤◌, ◌∷◌, [], IfOk, All};
 ghost use Rattle.batch.specs.BatchRows.{types_of};
+ghost use Rattle.pipe_types.specs.Over.{IsBreakerOver};
 ghost use Rattle.pipe_steps.specs.Tables.{joins_of};
 ghost use Rattle.pipe_round_tests.specs.Steps.{AreSteps};
 
-use crate::batches::{NUMBER, copied, random_piece};
+use crate::batches::{NUMBER, copied, piece_of, random_piece};
+use crate::breakers::random_breaker;
 use crate::random::Random;
 use crate::rows::Rows;
-use crate::steps::random_steps;
+use crate::steps::{random_steps, read_alone};
 use crate::tables::random_tables;
 use batch::Piece;
+use pipe_ends::gather;
 use pipe_round::run_pieces;
 use pipe_steps::{BuiltTable, run_steps};
 use pipe_work::{PipeSteps, hold_pieces};
-use plan_pipes::Step;
+use plan_pipes::{Breaker, Step};
 use std::alloc::Global;
 use std::marker::Sync;
 use std::sync::Wait;
@@ -57,8 +60,9 @@ fn agrees_once<H: Threads + Wait + Sync>(
     let tables = random_tables(alloc, random, count)?;
     let steps = random_steps(alloc, random, &tables)?;
     let pieces = random_pieces(alloc, random)?;
+    let breaker = random_breaker(alloc, random)?;
     let workers = workers_of(random);
-    let agrees = agrees(rt, alloc, &steps, &tables, &pieces, workers)?;
+    let agrees = agrees(rt, alloc, &steps, &tables, &breaker, &pieces, workers)?;
     Ok(agrees)
 }
 
@@ -104,52 +108,81 @@ fn agrees<H: Threads + Wait + Sync>(
     alloc: Global,
     steps: &[Step],
     tables: &[BuiltTable],
+    breaker: &Breaker,
     pieces: &[Piece],
     workers: u32,
 ) -> Result<bool, NoMemory>
     requires steps { AreSteps (joins_of tables.now) steps.now }
+    requires breaker { IsBreakerOver (NUMBER ∷ NUMBER ∷ []) breaker.now }
     requires typed { All (λ piece. types_of piece.batch ≡ NUMBER ∷ NUMBER ∷ []) pieces.now }
     requires workers { (1 ≤ workers) × (workers ≤ 64) }
 {
-    let expected = by_one_call(alloc, steps, tables, pieces)?;
-    let seen = by_workers(rt, alloc, steps, tables, pieces, workers)?;
-    let Some(seen) = seen else {
-        return Ok(false);
-    };
-    Ok(seen.is_same(&expected))
+    let whole = by_one_call(alloc, steps, tables, pieces)?;
+    let expected = by_one_worker(rt, alloc, breaker, whole)?;
+    let seen = by_workers(rt, alloc, steps, tables, breaker, pieces, workers)?;
+    Ok(are_both(&expected, &seen))
 }
 
+fn are_both(expected: &Option<Rows>, seen: &Option<Rows>) -> bool {
+    match (expected, seen) {
+        (Some(expected), Some(seen)) => seen.is_same(expected),
+        _ => false,
+    }
+}
+
+// What one call of the steps gives, in one piece.
 fn by_one_call(
     alloc: Global,
     steps: &[Step],
     tables: &[BuiltTable],
     pieces: &[Piece],
-) -> Result<Rows, NoMemory>
+) -> Result<Piece, NoMemory>
     requires steps { AreSteps (joins_of tables.now) steps.now }
     requires typed { All (λ piece. types_of piece.batch ≡ NUMBER ∷ NUMBER ∷ []) pieces.now }
+    ensures { IfOk result (λ piece. types_of piece.batch ≡ NUMBER ∷ NUMBER ∷ []) }
 {
     let types = [NUMBER, NUMBER];
     let input = all_copied(alloc, pieces)?;
     let out = run_steps(alloc, steps, tables, &types, input)?;
     let rows = Rows::of(alloc, &out)?;
+    let whole = piece_of(alloc, &rows)?;
+    Ok(whole)
+}
+
+// What the breaker gives for one piece.
+fn by_one_worker<H: Threads + Wait + Sync>(
+    rt: &H,
+    alloc: Global,
+    breaker: &Breaker,
+    piece: Piece,
+) -> Result<Option<Rows>, NoMemory>
+    requires breaker { IsBreakerOver (NUMBER ∷ NUMBER ∷ []) breaker.now }
+    requires typed { types_of piece.batch ≡ NUMBER ∷ NUMBER ∷ [] }
+{
+    let steps = read_alone(alloc, &[])?;
+    let mut pieces = Vec::new(alloc);
+    pieces.push(piece)?;
+    let rows = by_workers(rt, alloc, &steps, &[], breaker, &pieces, 1)?;
     Ok(rows)
 }
 
-// The same by workers, where there is a receipt of each.
+// What the breaker gives for what workers make of the pieces, where there is a receipt of each.
 fn by_workers<H: Threads + Wait + Sync>(
     rt: &H,
     alloc: Global,
     steps: &[Step],
     tables: &[BuiltTable],
+    breaker: &Breaker,
     pieces: &[Piece],
     workers: u32,
 ) -> Result<Option<Rows>, NoMemory>
     requires steps { AreSteps (joins_of tables.now) steps.now }
+    requires breaker { IsBreakerOver (NUMBER ∷ NUMBER ∷ []) breaker.now }
     requires typed { All (λ piece. types_of piece.batch ≡ NUMBER ∷ NUMBER ∷ []) pieces.now }
     requires workers { (1 ≤ workers) × (workers ≤ 64) }
 {
     let types = [NUMBER, NUMBER];
-    let pipe = PipeSteps::new(steps, tables, &types);
+    let pipe = PipeSteps::new(steps, tables, &types, breaker);
     let input = all_copied(alloc, pieces)?;
     let held = hold_pieces(alloc, &pipe, input)?;
     if held.len() > 6 {
@@ -159,6 +192,7 @@ fn by_workers<H: Threads + Wait + Sync>(
     if round.receipts.len() != workers as usize {
         return Ok(None);
     }
-    let rows = Rows::of(alloc, &round.pieces)?;
+    let given = gather(alloc, breaker, &types, round.parts)?;
+    let rows = Rows::of(alloc, &given)?;
     Ok(Some(rows))
 }

@@ -24,7 +24,12 @@ pub(super) const X_OF_T: &str = "\
     1A1B12190A140A12120B0A017812060A043A0210023A030A0174120178\
     ";
 
-// The same of texts.
+// The same without its first row, by a fetch over the read relation.
+pub(super) const BEHIND_FIRST_OF_T: &str = "\
+    1A21121F0A1A1A1812140A12120B0A017812060A043A0210023A030A01741801120178\
+    ";
+
+// The column x of the table t, of texts.
 pub(super) const TEXT_X_OF_T: &str = "\
     1A1B12190A140A12120B0A017812060A04620210013A030A0174120178\
     ";

@@ -1,6 +1,6 @@
 // What a run reports: its rows, and the receipts of its workers.
 use super::answered::{put, put_repeated, run_words};
-use super::plans::{MANY_ROWS_HEAD, MANY_ROWS_TAIL, NO_ROWS, ROW, X_OF_T};
+use super::plans::{BEHIND_FIRST_OF_T, MANY_ROWS_HEAD, MANY_ROWS_TAIL, NO_ROWS, ROW, X_OF_T};
 use run_top::{PipeReceipt, Status};
 use std::alloc::Global;
 use std::marker::Sync;
@@ -12,32 +12,41 @@ use world::MemFolder;
 // The rows of a report with one receipt, its batches and its workers.
 type Counts = (u64, u64, usize);
 
+// The number of the read relation of a plan that has nothing else, and of one with a fetch before it.
+const ALONE: u32 = 0;
+
+const BEHIND_FETCH: u32 = 1;
+
 fn counts_of(status: &Status) -> Option<Counts> {
-    let receipt = receipt_of(status)?;
     let Status::Ok(report) = status else {
+        return None;
+    };
+    let [receipt] = report.receipts.as_slice() else {
         return None;
     };
     Some((report.rows, receipt.batches, receipt.workers.len()))
 }
 
-// The only receipt of a report.
-fn receipt_of(status: &Status) -> Option<&PipeReceipt> {
+// The only receipt of a report, where it is of this relation.
+fn receipt_of(status: &Status, relation: u32) -> Option<&PipeReceipt> {
     let Status::Ok(report) = status else {
         return None;
     };
     match report.receipts.as_slice() {
-        [receipt] if receipt.relation == 0 => Some(receipt),
+        [receipt] if receipt.relation == relation => Some(receipt),
         _ => None,
     }
 }
 
-// A folder with plans of virtual tables, `p`, `e` and `m`, a plan over the table `t`, `x`, and a file of three rows, `g`.
+// A folder with plans of virtual tables, `p`, `e` and `m`, two over the table `t`, `x` and `f`, of which `f` goes by pipelines, and a file
+// of three rows, `g`.
 fn folder_of(alloc: Global) -> MemFolder {
     let mut folder = MemFolder::new(alloc);
     let _ = folder.put_file("p", &THREE_ROWS_PLAN);
     let _ = folder.put_file("g", &THREE_ROWS_FILE);
     put(alloc, &mut folder, "e", NO_ROWS);
     put(alloc, &mut folder, "x", X_OF_T);
+    put(alloc, &mut folder, "f", BEHIND_FIRST_OF_T);
     let many = (MANY_ROWS_HEAD, ROW, MANY_ROWS_TAIL);
     put_repeated(alloc, &mut folder, "m", many, 1_025);
     folder
@@ -60,11 +69,13 @@ fn reports<H: Threads + Wait + Sync>(
 #[test]
 fn rows_batches_and_workers(rt: HostRuntime) {
     let mut folder = folder_of(rt.alloc());
-    let runs: [(&[&str], Counts); 6] = [
+    let runs: [(&[&str], Counts); 8] = [
         (&["run", "p", "o", "1"], (3, 1, 1)),
         (&["run", "p", "o", "64"], (3, 1, 64)),
         (&["run", "e", "o", "1"], (0, 0, 1)),
         (&["run", "x", "o", "3", "t=g", "t=g"], (6, 2, 3)),
+        (&["run", "f", "o", "1", "t=g", "t=g"], (5, 2, 1)),
+        (&["run", "f", "o", "64", "t=g", "t=g"], (5, 2, 64)),
         (&["run", "m", "n", "2"], (1_025, 2, 2)),
         // the two batches that were written by the run before, and one of another file
         (&["run", "x", "o", "3", "t=n", "t=g"], (1_028, 3, 3)),
@@ -111,16 +122,17 @@ fn is_each_once(receipt: &PipeReceipt, batches: u64) -> bool {
     counts_in(receipt, batches) == (0, 0)
 }
 
-// Whether the run of the words has one receipt, of one worker that did these batches.
+// Whether the run of the words has one receipt, of this relation and of one worker that did these batches.
 fn is_done_alone<H: Threads + Wait + Sync>(
     rt: &H,
     alloc: Global,
     folder: &mut MemFolder,
     words: &[&str],
+    relation: u32,
     all: &[u64],
 ) -> bool {
     match run_words(rt, alloc, folder, words) {
-        Ok(answered) => match receipt_of(&answered.status) {
+        Ok(answered) => match receipt_of(&answered.status, relation) {
             Some(receipt) => is_of_one(receipt, all),
             None => false,
         },
@@ -128,16 +140,17 @@ fn is_done_alone<H: Threads + Wait + Sync>(
     }
 }
 
-// Whether the run of the words has one receipt, of so many batches that were done once each.
+// Whether the run of the words has one receipt, of this relation and of so many batches that were done once each.
 fn is_done_once<H: Threads + Wait + Sync>(
     rt: &H,
     alloc: Global,
     folder: &mut MemFolder,
     words: &[&str],
+    relation: u32,
     batches: u64,
 ) -> bool {
     match run_words(rt, alloc, folder, words) {
-        Ok(answered) => match receipt_of(&answered.status) {
+        Ok(answered) => match receipt_of(&answered.status, relation) {
             Some(receipt) => is_each_once(receipt, batches),
             None => false,
         },
@@ -147,18 +160,33 @@ fn is_done_once<H: Threads + Wait + Sync>(
 
 #[test]
 fn one_worker_passes_each_batch_through_the_queue(rt: HostRuntime) {
-    let mut folder = folder_of(rt.alloc());
+    let alloc = rt.alloc();
+    let mut folder = folder_of(alloc);
     let one = ["run", "x", "o", "1", "t=g"];
-    assert!(rt; is_done_alone(&rt, rt.alloc(), &mut folder, &one, &[0]));
+    assert!(rt; is_done_alone(&rt, alloc, &mut folder, &one, ALONE, &[0]));
     let five = ["run", "x", "o", "1", "t=g", "t=g", "t=g", "t=g", "t=g"];
-    assert!(rt; is_done_alone(&rt, rt.alloc(), &mut folder, &five, &[0, 1, 2, 3, 4]));
+    assert!(rt; is_done_alone(&rt, alloc, &mut folder, &five, ALONE, &[0, 1, 2, 3, 4]));
+    let behind = ["run", "f", "o", "1", "t=g", "t=g", "t=g", "t=g", "t=g"];
+    assert!(rt;
+        is_done_alone(
+            &rt,
+            alloc,
+            &mut folder,
+            &behind,
+            BEHIND_FETCH,
+            &[0, 1, 2, 3, 4]
+        )
+    );
 }
 
 #[test]
 fn many_workers_claim_each_batch_once(rt: HostRuntime) {
-    let mut folder = folder_of(rt.alloc());
+    let alloc = rt.alloc();
+    let mut folder = folder_of(alloc);
     let two = ["run", "x", "o", "3", "t=g", "t=g"];
-    assert!(rt; is_done_once(&rt, rt.alloc(), &mut folder, &two, 2));
+    assert!(rt; is_done_once(&rt, alloc, &mut folder, &two, ALONE, 2));
     let five = ["run", "x", "o", "64", "t=g", "t=g", "t=g", "t=g", "t=g"];
-    assert!(rt; is_done_once(&rt, rt.alloc(), &mut folder, &five, 5));
+    assert!(rt; is_done_once(&rt, alloc, &mut folder, &five, ALONE, 5));
+    let behind = ["run", "f", "o", "3", "t=g", "t=g", "t=g", "t=g", "t=g"];
+    assert!(rt; is_done_once(&rt, alloc, &mut folder, &behind, BEHIND_FETCH, 5));
 }
