@@ -5,7 +5,7 @@ use Rattle.sub_types.specs.Stream.{Stream}
 use Rattle.batch.specs.declared.batch.Piece.{Piece}
 use Rattle.plan_denote.specs.Rows.{Row}
 use Rattle.set_rels.specs.Inputs.{stream_of}
-use Rattle.pipe_ends.specs.Given.{IsInput}
+pub use Rattle.pipe_ends.specs.Given.{IsInput}
 
 -- this holds of pieces that were not taken
 abbrev pub IsKept : {T : Type 0} → (T → List Piece → Type 0) → T → Option (List Piece) → Type 0

@@ -7,4 +7,5 @@ mod feed;
 mod stores;
 
 pub use feed::{Through, feed_set, feed_stored, feed_virtual};
+pub use pipe_ends::{build, ended_alone, gather, types_gathered};
 pub use stores::{Stores, take_stored};

@@ -18,10 +18,8 @@ use Rattle.pipe_types.specs.Over.{AreStepsOver, IsBreakerOver}
 use Rattle.pipe_steps.specs.Behind.{IsStored}
 use Rattle.pipe_steps.specs.Tables.{joins_of, tables_seen}
 use Rattle.pipe_steps.specs.declared.built.BuiltTable.{BuiltTable}
-use Rattle.pipe_parts.specs.Parts.{ArePartsOf}
-use Rattle.pipe_parts.specs.declared.part.Part.{Part}
-use Rattle.pipe_ends.specs.Given.{IsInput}
-use Rattle.pipe_work.specs.Pipe.{StepsSeen}
+use Rattle.read_rounds.specs.Given.{Part, ArePartsOf, StepsSeen}
+use Rattle.pipe_feeds.specs.Kept.{IsInput}
 use Rattle.cut_laws.specs.Found.{ReadRel, read_at}
 use Rattle.fed_laws.specs.Fed.{IsReadAt, IsReadFrom}
 use Rattle.read_laws.specs.Typed.{IsTypedRead}

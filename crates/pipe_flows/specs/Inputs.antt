@@ -7,6 +7,7 @@ use Rattle.cut_laws.specs.Found.{ReadRel, read_at, types_read}
 use Rattle.read_sources.specs.Seen.{read_seen}
 use Rattle.read_sources.specs.declared.sources.ReadSource.{ReadSource}
 use Rattle.open_blocks.specs.Files.{FilesSeen, AreOpenFor, files_at}
+pub use Rattle.read_rounds.specs.Given.{Part, ArePartsOf, HaveParts}
 pub use Rattle.read_rounds.specs.Told.{TellsRows, blocks_at}
 
 -- the types of the columns of a read relation

@@ -1,5 +1,5 @@
 // What comes through steps.
-use pipe_parts::Part;
+use read_rounds::Part;
 use sub_types::Ty;
 
 /// What is kept of what comes through the steps of a pipeline, in parts in order, and the types that it is stored with.

@@ -14,4 +14,4 @@ mod virtual_read;
 pub use alone::{flow_set, flow_stored};
 pub use flowed::Flowed;
 pub use read::flow_read;
-pub use read_rounds::Crew;
+pub use read_rounds::{Crew, PipeSteps};

@@ -1,3 +1,4 @@
+pub mod Below
 pub mod PutLaws
 pub mod SettledLaws
 pub mod MergedLaws

@@ -19,8 +19,7 @@ use Rattle.plan_pipes.proofs.PiecesLaws.{finished-same, marks_through-append, pi
 use Rattle.pipe_types.specs.Exact.{exact_steps}
 use Rattle.pipe_steps.specs.Behind.{IsStored}
 use Rattle.pipe_steps.specs.Tables.{joins_of, tables_seen}
-use Rattle.pipe_parts.specs.declared.part.Part.{Part}
-use Rattle.pipe_parts.specs.Parts.{AreParts, ArePartsOf}
+use Rattle.pipe_work.specs.Kept.{Part, AreParts, ArePartsOf}
 use Rattle.pipe_work.specs.declared.kept.Kept.{Kept}
 use Rattle.pipe_work.specs.declared.passed.Passed.{Passed}
 use Rattle.pipe_work.specs.Pipe.{StepsSeen}

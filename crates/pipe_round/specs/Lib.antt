@@ -1,3 +1,4 @@
+pub mod Below
 pub mod Merged
 pub mod Settled
 pub mod Unused

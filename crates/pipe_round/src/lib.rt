@@ -11,5 +11,6 @@ mod round;
 mod together;
 
 pub use pieces::run_pieces;
+pub use pipe_work::{Part, PipeSteps, hold_pieces};
 pub use round::PipeRound;
 pub use together::settle_pieces;

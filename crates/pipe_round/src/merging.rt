@@ -4,8 +4,7 @@ ghost use Rattle.plan_pipes.specs.Pieces.{merged_each};
 ghost use Rattle.pipe_round.specs.Merged.{HaveSameRows, merged_all};
 
 use hash_join::Marks;
-use pipe_parts::Part;
-use pipe_work::Kept;
+use pipe_work::{Kept, Part};
 use sub_types::NoMemory;
 
 // Marks what either marks, step by step.

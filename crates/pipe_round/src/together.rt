@@ -8,15 +8,14 @@ ghost use Rattle.plan_pipes.specs.RowMeaning.{row_steps};
 ghost use Rattle.pipe_types.specs.Exact.{exact_steps};
 ghost use Rattle.pipe_steps.specs.Marked.{HaveMarks};
 ghost use Rattle.pipe_steps.specs.Tables.{joins_of, tables_seen};
-ghost use Rattle.pipe_parts.specs.Parts.{ArePartsOf};
+ghost use Rattle.pipe_work.specs.Kept.{ArePartsOf};
 ghost use Rattle.round_end.specs.Decided.{decided, settled_seen};
 ghost use Rattle.pipe_round.specs.Settled.{AreSettled, HavePut, HasMarks};
 
 use crate::merging::add_kept;
 use hash_join::Marks;
 use pipe_labour::Item;
-use pipe_parts::Part;
-use pipe_work::{Kept, PipeSteps};
+use pipe_work::{Kept, Part, PipeSteps};
 use round_end::{Outcome, Settled, settle};
 use std::alloc::Global;
 use sub_types::NoMemory;

@@ -4,6 +4,8 @@ use Rattle.sub_types.specs.Stream.{Stream}
 use Rattle.plan_denote.specs.Rows.{Row}
 use Rattle.plan_pipes.specs.declared.pipe.Breaker.{Breaker}
 use Rattle.pipe_parts.specs.Parts.{IsPart}
+pub use Rattle.pipe_parts.specs.Parts.{AreParts, ArePartsOf, HaveParts}
+pub use Rattle.pipe_parts.specs.declared.part.Part.{Part}
 use Rattle.round_end.specs.declared.outcome.Outcome.{Outcome}
 use Rattle.round_end.specs.declared.outcome.Outcome.TheVariants.{Made, Ended, ReadFault}
 use Rattle.pipe_work.specs.declared.kept.Kept.{Kept}

@@ -21,4 +21,5 @@ pub use kept::Kept;
 pub use passed::Passed;
 pub use passing::{outcome_of, pass_alone};
 pub use pipe::PipeSteps;
+pub use pipe_parts::Part;
 pub use work::PieceWork;

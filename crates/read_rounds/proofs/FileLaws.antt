@@ -11,7 +11,7 @@ use Rattle.block_source.specs.Places.{place_in, places_in, places_from, places_o
 use Rattle.block_source.specs.Seen.{bytes_of}
 use Rattle.table_rows.specs.Blocks.{block_stream, file_streams}
 use Rattle.plan_tables.specs.Tables.{blocks_of}
-use Rattle.block_work.specs.declared.reading.TableSteps.{TableSteps}
+use Rattle.table_round.specs.Below.{TableSteps}
 use Rattle.table_round.specs.Streams.{AreBlocks}
 use Rattle.open_blocks.specs.Files.{AllTell, stream_in, tables_with}
 

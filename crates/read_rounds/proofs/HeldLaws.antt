@@ -13,7 +13,7 @@ use Rattle.plan_pipes.specs.declared.pipe.Step.{Step}
 use Rattle.plan_pipes.specs.declared.pipe.Step.TheVariants as steps
 use Rattle.pipe_steps.specs.Behind.{IsStored}
 use Rattle.pipe_steps.specs.Ready.{IsFit, IsReady}
-use Rattle.pipe_work.specs.declared.held.HeldPiece.{HeldPiece}
+use Rattle.table_round.specs.Below.{HeldPiece}
 
 pub all_typed : (types : List Ty) (pieces : List Piece) → All (IsStored types) pieces → All (λ (piece : Piece). types_of piece.batch ≡ types) pieces
 all_typed types pieces all = All-weaker (IsStored types) (λ (piece : Piece). types_of piece.batch ≡ types) (λ piece is. is.typed) pieces all

@@ -6,9 +6,7 @@ use Rattle.plan_pipes.specs.Run.{through}
 use Rattle.plan_pipes.specs.RowMeaning.{row_steps}
 use Rattle.pipe_types.specs.Exact.{exact_steps}
 use Rattle.pipe_steps.specs.Tables.{joins_of, tables_seen}
-use Rattle.pipe_parts.specs.Parts.{ArePartsOf}
-use Rattle.pipe_parts.specs.declared.part.Part.{Part}
-use Rattle.pipe_work.specs.Pipe.{StepsSeen}
+pub use Rattle.table_round.specs.Below.{Part, ArePartsOf, HaveParts, StepsSeen}
 
 -- parts, for the pipeline's breaker, of what its steps give over these rows
 abbrev pub ArePartsThrough : StepsSeen → Stream Row → List Part → Type 0

@@ -8,7 +8,7 @@ ghost use Rattle.plan_denote.specs.Rows.{Row};
 ghost use Rattle.block_source.specs.Bodies.{AreReadOnce};
 ghost use Rattle.block_source.specs.Seen.{AreHeads};
 ghost use Rattle.table_rows.specs.Blocks.{HaveKinds};
-ghost use Rattle.block_work.specs.Reads.{StartsWithRead};
+ghost use Rattle.table_round.specs.Below.{StartsWithRead};
 ghost use Rattle.open_blocks.specs.Files.{AreOpenFor, faults_of, files_at, files_seen};
 ghost use Rattle.read_rounds.specs.Bodies.{HaveRead, reads_made};
 ghost use Rattle.read_rounds.specs.Given.{ArePartsThrough};
@@ -17,16 +17,13 @@ ghost use Rattle.read_rounds.specs.Told.{TellsRows, blocks_at, blocks_in, parts_
 use crate::round::FeedRound;
 use crate::workers::Crew;
 use block_source::TableBlocks;
-use block_work::TableSteps;
 use open_blocks::ReadFiles;
-use pipe_round::PipeRound;
-use pipe_work::PipeSteps;
 use plan_pipes::Step;
 use std::alloc::Global;
 use std::marker::{Send, Sync};
 use std::sync::Wait;
 use std::thread::Threads;
-use table_round::run_table;
+use table_round::{PipeRound, PipeSteps, TableSteps, run_table};
 use world::{FolderError, Gate, Reader};
 
 /// What is kept of what the steps of a pipeline give over the blocks of the files of the read relation with a number, up to the first

@@ -12,4 +12,5 @@ mod workers;
 pub use files::read_named;
 pub use pieces::pass_pieces;
 pub use round::FeedRound;
+pub use table_round::{Part, PipeSteps};
 pub use workers::Crew;

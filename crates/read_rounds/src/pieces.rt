@@ -10,12 +10,11 @@ ghost use Rattle.read_rounds.specs.Given.{ArePartsThrough};
 use crate::round::FeedRound;
 use crate::workers::Crew;
 use batch::Piece;
-use pipe_round::{PipeRound, run_pieces};
-use pipe_work::{PipeSteps, hold_pieces};
 use std::alloc::Global;
 use std::sync::Wait;
 use std::thread::Threads;
 use sub_types::NoMemory;
+use table_round::{PipeRound, PipeSteps, hold_pieces, run_pieces};
 use world::Gate;
 
 /// The most pieces of a round.

@@ -30,11 +30,10 @@ use Rattle.pipe_types.specs.Exact.{exact_over}
 use Rattle.pipe_types.specs.Over.{stored}
 use Rattle.pipe_types.proofs.ImpliedLaws.{all_kinds}
 use Rattle.pipe_types.proofs.StoredLaws.{pipe_over, stream_implied}
-use Rattle.pipe_ends.specs.Given.{IsInput}
 use Rattle.open_blocks.specs.Files.{FilesSeen, files_at, stream_in}
 use Rattle.fed_laws.proofs.CountLaws.{reads_differ}
 use Rattle.fed_laws.proofs.GivenLaws.{have_tables}
-use Rattle.pipe_feeds.specs.Kept.{AreTypedAs, whole}
+use Rattle.pipe_feeds.specs.Kept.{AreTypedAs, IsInput, whole}
 use Rattle.pipe_feeds.specs.declared.stores.Stores.{Stores}
 use Rattle.pipe_feeds.proofs.KeptLaws.{kept_at}
 use Rattle.pipe_flows.specs.Inputs.{columns_of, told_by, IsOpenFor, TellsRows}

@@ -13,14 +13,12 @@ use Rattle.plan_pipes.specs.Run.{through}
 use Rattle.plan_pipes.specs.RowMeaning.{Table, row_steps}
 use Rattle.pipe_steps.specs.Tables.{tables_seen}
 use Rattle.pipe_steps.specs.declared.built.BuiltTable.{BuiltTable}
-use Rattle.pipe_parts.specs.Parts.{ArePartsOf}
-use Rattle.pipe_parts.specs.declared.part.Part.{Part}
 use Rattle.cut_laws.specs.Found.{ReadRel}
 use Rattle.fed_laws.specs.Fed.{IsReadAt}
 use Rattle.open_blocks.specs.Files.{FilesSeen}
 use Rattle.pipe_feeds.specs.Kept.{AreStreams}
 use Rattle.pipe_feeds.specs.declared.stores.Stores.{Stores}
-use Rattle.pipe_flows.specs.Inputs.{told_by}
+use Rattle.pipe_flows.specs.Inputs.{Part, ArePartsOf, told_by}
 use Rattle.table_engine.specs.Stands.{FlowsFrom}
 
 module _ (files : List FilesSeen) (reads : List ReadRel) (feed : Feed) (steps : List Step) (breaker : Breaker) (stores : Stores) (stored : List Ty) (parts : List Part) where

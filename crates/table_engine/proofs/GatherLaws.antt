@@ -9,7 +9,7 @@ use Rattle.plan_pipes.specs.RowMeaning.{Table}
 use Rattle.pipe_steps.specs.Ready.{IsFit}
 use Rattle.pipe_steps.specs.Tables.{table_seen, tables_seen}
 use Rattle.pipe_steps.specs.declared.built.BuiltTable.{BuiltTable}
-use Rattle.pipe_ends.specs.Given.{IsInput}
+use Rattle.pipe_feeds.specs.Kept.{IsInput}
 
 -- pieces that are stored with types by another name
 pub input_as : (types other : List Ty) (pieces : List Piece) → types ≡ other → All (λ (piece : Piece). types_of piece.batch ≡ other) pieces → All (λ (piece : Piece). IsFit piece.batch) pieces → IsInput types pieces

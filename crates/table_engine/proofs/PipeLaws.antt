@@ -13,10 +13,8 @@ use Rattle.pipe_types.specs.Exact.{exact_over, gathered_types}
 use Rattle.pipe_types.specs.Over.{IsBreakerOver}
 use Rattle.pipe_steps.specs.Tables.{joins_of, tables_seen}
 use Rattle.pipe_steps.specs.declared.built.BuiltTable.{BuiltTable}
-use Rattle.pipe_parts.specs.Parts.{ArePartsOf}
-use Rattle.pipe_parts.specs.declared.part.Part.{Part}
-use Rattle.pipe_ends.specs.Given.{IsInput}
-use Rattle.pipe_feeds.specs.Kept.{AreStreams, AreTypedAs, IsLeft}
+use Rattle.pipe_flows.specs.Inputs.{Part, ArePartsOf}
+use Rattle.pipe_feeds.specs.Kept.{AreStreams, AreTypedAs, IsInput, IsLeft}
 use Rattle.cut_laws.specs.Found.{ReadRel}
 use Rattle.open_blocks.specs.Files.{FilesSeen}
 use Rattle.table_engine.specs.Stands.{FlowsFrom, HasRunPipe, IsPipeOn, StandsFor, types_in}

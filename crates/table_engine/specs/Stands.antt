@@ -15,14 +15,12 @@ use Rattle.plan_pipes.specs.RowMeaning.{Table, rows_over}
 use Rattle.pipe_types.specs.Exact.{exact_over}
 use Rattle.pipe_types.specs.Over.{IsFeedOver, AreStepsOver, IsBreakerOver}
 use Rattle.pipe_steps.specs.Tables.{tables_seen, joins_of}
-use Rattle.pipe_parts.specs.Parts.{ArePartsOf}
-use Rattle.pipe_parts.specs.declared.part.Part.{Part}
 use Rattle.cut_laws.specs.Found.{ReadRel}
 use Rattle.open_blocks.specs.Files.{FilesSeen}
 use Rattle.fed_laws.specs.Fed.{AreFedBy, FeedAll, Feeds, IsFedBy}
 use Rattle.pipe_feeds.specs.Kept.{AreStreams}
 use Rattle.pipe_feeds.specs.declared.stores.Stores.{Stores}
-use Rattle.pipe_flows.specs.Inputs.{told_by}
+use Rattle.pipe_flows.specs.Inputs.{Part, ArePartsOf, told_by}
 
 -- the types that were stored, and the joins that tables were built for
 abbrev pub types_in : Stores → Past (List Ty) (Option JoinSpec)

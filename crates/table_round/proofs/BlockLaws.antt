@@ -22,10 +22,7 @@ use Rattle.block_source.specs.Places.{places_of}
 use Rattle.block_source.specs.Seen.{bytes_of, GivesAt, GivesFor}
 use Rattle.table_rows.specs.Blocks.{HaveKinds}
 use Rattle.table_rows.proofs.KindLaws.{kinds_are}
-use Rattle.pipe_work.specs.declared.kept.Kept.{Kept}
-use Rattle.pipe_work.specs.declared.passed.Passed.{Passed}
-use Rattle.pipe_work.specs.Kept.{IsKeptOf, IsMade}
-use Rattle.pipe_work.specs.Passed.{IsWorkedTo}
+use Rattle.pipe_round.specs.Below.{Kept, Passed, IsKeptOf, IsMade, IsWorkedTo}
 use Rattle.block_work.specs.declared.reading.TableSteps.{TableSteps}
 use Rattle.block_work.specs.Blocks as work
 use Rattle.block_work.specs.Blocks.{block_at, rows_with, dictionaries_in}

@@ -5,4 +5,6 @@
 
 mod table;
 
+pub use block_work::TableSteps;
+pub use pipe_round::{Part, PipeRound, PipeSteps, hold_pieces, run_pieces};
 pub use table::run_table;

@@ -8,7 +8,7 @@ ghost use Rattle.plan_pipes.specs.Run.{through};
 ghost use Rattle.plan_pipes.specs.RowMeaning.{row_steps};
 ghost use Rattle.pipe_types.specs.Exact.{exact_steps};
 ghost use Rattle.pipe_steps.specs.Tables.{joins_of, tables_seen};
-ghost use Rattle.pipe_parts.specs.Parts.{ArePartsOf};
+ghost use Rattle.pipe_round.specs.Below.{ArePartsOf};
 ghost use Rattle.block_source.specs.Bodies.{AreReadOnce};
 ghost use Rattle.block_source.specs.Seen.{AreHeads};
 ghost use Rattle.table_rows.specs.Blocks.{HaveKinds};

@@ -4,7 +4,7 @@ use Rattle.plan_denote.specs.Rows.{Row}
 use Rattle.plan_pipes.specs.Run.{through}
 use Rattle.plan_pipes.specs.RowMeaning.{row_steps}
 use Rattle.pipe_steps.specs.Tables.{tables_seen}
-use Rattle.pipe_parts.specs.Parts.{ArePartsOf}
+use Rattle.read_rounds.specs.Given.{ArePartsOf}
 use Rattle.set_rels.specs.Inputs.{stream_of}
 use Rattle.pipe_flows.proofs.FlowLaws.{breaker_as, over_as, rows_as, types_as}
 use Rattle.pipe_flows.proofs.alone.flow_stored.Goals as goal

@@ -5,7 +5,7 @@ use Rattle.plan_pipes.specs.RowMeaning.{row_steps}
 use Rattle.pipe_types.specs.Exact.{exact_steps}
 use Rattle.pipe_steps.specs.Tables.{joins_of, tables_seen}
 use Rattle.set_rels.specs.Inputs.{stream_of}
-use Rattle.pipe_work.specs.Pipe.{StepsSeen}
+use Rattle.read_rounds.specs.Given.{StepsSeen}
 use Rattle.pipe_flows.proofs.FlowLaws.{input_stored, parts_as}
 use Rattle.pipe_flows.proofs.ReceiptLaws.{receipt_as}
 use Rattle.pipe_flows.proofs.counted.pass_counted.Goals as goal

@@ -6,7 +6,7 @@ use Rattle.pipe_types.specs.Exact.{exact_steps}
 use Rattle.pipe_steps.specs.Tables.{joins_of, tables_seen}
 use Rattle.open_blocks.specs.Files.{files_at, files_seen}
 use Rattle.read_rounds.specs.Told.{blocks_at}
-use Rattle.pipe_work.specs.Pipe.{StepsSeen}
+use Rattle.read_rounds.specs.Given.{StepsSeen}
 use Rattle.pipe_flows.proofs.FlowLaws.{parts_as}
 use Rattle.pipe_flows.proofs.ReceiptLaws.{receipt_as}
 use Rattle.pipe_flows.proofs.counted.read_counted.Goals as goal

@@ -6,8 +6,7 @@ use Rattle.plan_pipes.specs.Run.{through}
 use Rattle.plan_pipes.specs.RowMeaning.{row_steps}
 use Rattle.pipe_types.specs.Exact.{exact_steps}
 use Rattle.pipe_steps.specs.Tables.{joins_of, tables_seen}
-use Rattle.pipe_parts.specs.Parts.{ArePartsOf}
-use Rattle.pipe_work.specs.Pipe.{StepsSeen}
+use Rattle.read_rounds.specs.Given.{ArePartsOf, StepsSeen}
 use Rattle.open_blocks.specs.Files.{FilesSeen, AreOpenFor, files_at, files_seen}
 use Rattle.read_rounds.specs.Told.{TellsRows}
 use Rattle.pipe_flows.proofs.read.flow_named.Goals as goal

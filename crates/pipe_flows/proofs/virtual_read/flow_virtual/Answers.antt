@@ -10,9 +10,8 @@ use Rattle.pipe_types.specs.Exact.{exact_steps}
 use Rattle.pipe_types.specs.Over.{AreStepsOver}
 use Rattle.pipe_steps.specs.Tables.{joins_of, tables_seen}
 use Rattle.set_rels.specs.Inputs.{stream_of}
-use Rattle.pipe_parts.specs.Parts.{ArePartsOf}
-use Rattle.pipe_ends.specs.Given.{IsInput}
-use Rattle.pipe_work.specs.Pipe.{StepsSeen}
+use Rattle.read_rounds.specs.Given.{ArePartsOf, StepsSeen}
+use Rattle.pipe_feeds.specs.Kept.{IsInput}
 use Rattle.pipe_flows.specs.Receipts.{batches_from}
 use Rattle.pipe_flows.proofs.FlowLaws.{breaker_behind, rest_is, steps_behind}
 use Rattle.pipe_flows.proofs.ReceiptLaws.{receipt_as}

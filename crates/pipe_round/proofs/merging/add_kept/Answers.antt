@@ -3,7 +3,7 @@ use Rattle.std.specs.List.{All}
 use Rattle.std.specs.Vec.Iter.{into_iter_items}
 use Rattle.std.proofs.lemmas.List.Elements.{All-tail}
 use Rattle.plan_pipes.specs.Pieces.{merged_each}
-use Rattle.pipe_parts.specs.declared.part.Part.{Part}
+use Rattle.pipe_work.specs.Kept.{Part}
 use Rattle.pipe_work.specs.declared.kept.Kept.{Kept}
 use Rattle.pipe_round.specs.Merged.{HaveSameRows, merged_all}
 use Rattle.pipe_round.proofs.merging.add_kept.Goals as goal

@@ -2,7 +2,7 @@ use Rattle.std.proofs.Common.{◌≡◌, ◌∙◌, ◌++◌, List, false, Optio
 use Rattle.std.specs.Prelude.{is_some}
 use Rattle.sub_types.specs.declared.fault.Fault.{Fault}
 use Rattle.pipe_steps.specs.Tables.{tables_seen}
-use Rattle.pipe_parts.specs.declared.part.Part.{Part}
+use Rattle.pipe_work.specs.Kept.{Part}
 use Rattle.pipe_work.specs.declared.kept.Kept.{Kept}
 use Rattle.pipe_round.specs.Settled.{HavePut}
 use Rattle.pipe_round.proofs.PutLaws.{parts_some, parts_all}

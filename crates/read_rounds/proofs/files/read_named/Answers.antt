@@ -1,6 +1,5 @@
 use Rattle.std.proofs.Common.{ap, subst}
-use Rattle.block_work.specs.Reads.{StartsWithRead}
-use Rattle.pipe_work.specs.Pipe.{StepsSeen}
+use Rattle.table_round.specs.Below.{StartsWithRead, StepsSeen}
 use Rattle.read_rounds.proofs.files.read_named.Goals as goal
 
 pub read_at-requires-clause-reads : goal.read_at-requires-clause-reads

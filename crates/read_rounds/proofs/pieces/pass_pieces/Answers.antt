@@ -3,7 +3,7 @@ use Rattle.std.specs.List.{All}
 use Rattle.run_core.specs.Receipts.{lists_of, IsBalanced}
 use Rattle.sub_types.specs.Stream.{Stream}
 use Rattle.plan_denote.specs.Rows.{Row}
-use Rattle.pipe_work.specs.declared.held.HeldPiece.{HeldPiece}
+use Rattle.table_round.specs.Below.{HeldPiece}
 use Rattle.read_rounds.specs.Given.{ArePartsThrough}
 use Rattle.read_rounds.proofs.HeldLaws.{all_ready, all_typed, held_count, held_stream}
 use Rattle.read_rounds.proofs.pieces.pass_pieces.Goals as goal

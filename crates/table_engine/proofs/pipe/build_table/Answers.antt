@@ -2,7 +2,7 @@ use Rattle.std.proofs.Common.{◌≡◌, ◌∙◌, sym, ap}
 use Rattle.sub_types.specs.Stream.{ended}
 use Rattle.plan_pipes.specs.RowMeaning.{table_of}
 use Rattle.plan_pipes.specs.declared.pipe.Breaker.TheVariants as breakers
-use Rattle.pipe_ends.specs.Given.{IsInput}
+use Rattle.pipe_feeds.specs.Kept.{IsInput}
 use Rattle.set_rels.specs.Inputs.{stream_of}
 use Rattle.pipe_feeds.proofs.KeptLaws.{typed_more, streams_more}
 use Rattle.pipe_flows.proofs.FlowLaws.{parts_as}

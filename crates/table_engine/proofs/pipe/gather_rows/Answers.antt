@@ -1,6 +1,6 @@
 use Rattle.std.proofs.Common.{◌∙◌, sym, ap}
 use Rattle.pipe_types.specs.Exact.{gathered_types}
-use Rattle.pipe_ends.specs.Given.{IsInput}
+use Rattle.pipe_feeds.specs.Kept.{IsInput}
 use Rattle.plan_pipes.specs.RowMeaning.{gathered}
 use Rattle.pipe_flows.proofs.FlowLaws.{parts_as}
 use Rattle.pipe_feeds.proofs.KeptLaws.{typed_more, streams_more}

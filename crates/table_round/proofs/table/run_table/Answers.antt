@@ -4,7 +4,7 @@ use Rattle.std.specs.List.{range_with_len}
 use Rattle.world.specs.declared.error.FolderError.{FolderError}
 use Rattle.world.specs.declared.error.FolderError.TheVariants.{Failed}
 use Rattle.round_end.proofs.outcome.Outcome.TheSendSync as outcome_sent
-use Rattle.pipe_work.proofs.Crosses.{kept_row}
+use Rattle.pipe_round.proofs.Below.{kept_row}
 use Rattle.block_work.proofs.Crosses.{work_row}
 use Rattle.pipe_round.proofs.WorkedLaws.{settled_marks}
 use Rattle.table_round.proofs.BlockLaws.{all_came, rose_of}
