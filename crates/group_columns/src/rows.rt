@@ -1,7 +1,7 @@
 // What a measure takes of rows goes to their groups.
 ghost use Rattle.std.specs.Prelude.{◌≡◌, ◌+◌, ◌<◌, ◌≤◌, ◌^◌, true, length, slice_index_or, All, IfOk, OnOk, if◌then◌else◌};
 ghost use Rattle.sub_types.specs.declared.value.Value.TheVariants.{Null};
-ghost use Rattle.sub_types.specs.Nullable.{int_value};
+ghost use Rattle.sub_types.specs.Nullable.{dec_value, int_value};
 ghost use Rattle.batch.specs.ColumnValues.{values_of as column_values_of};
 ghost use Rattle.plan_denote.specs.Computed.{is_true as spec_is_true};
 ghost use Rattle.group_tallies.specs.Kept.{tallies_in, keeping_in, tally_at, with_tally, kept_of};
@@ -84,15 +84,27 @@ fn value_or_true(
     }
 }
 
-/// The value at a place of a column. A number of 64 bits is read where it stands.
+/// The value at a place of a column. A number of 32 or 64 bits and a decimal are read where they stand.
 #[inline(always)]
 fn value_in(alloc: Global, column: &ColumnData, place: usize) -> Result<Value, NoMemory>
     requires { place < length (column_values_of column.now) }
     ensures { IfOk result (λ value. value ≡ slice_index_or (column_values_of column.now) place Null) }
 {
     match column {
+        ColumnData::I32(numbers) => Ok(short_or_null(numbers.value_at(place))),
         ColumnData::I64(numbers) => Ok(number_or_null(numbers.value_at(place))),
+        ColumnData::I128(numbers) => Ok(decimal_or_null(numbers.value_at(place))),
         _ => column.value_at(alloc, place),
+    }
+}
+
+#[inline(always)]
+fn short_or_null(number: Option<i32>) -> Value
+    ensures { result ≡ int_value number }
+{
+    match number {
+        Some(number) => Value::Int(i64::from(number)),
+        None => Value::Null,
     }
 }
 
@@ -102,6 +114,16 @@ fn number_or_null(number: Option<i64>) -> Value
 {
     match number {
         Some(number) => Value::Int(number),
+        None => Value::Null,
+    }
+}
+
+#[inline(always)]
+fn decimal_or_null(number: Option<i128>) -> Value
+    ensures { result ≡ dec_value number }
+{
+    match number {
+        Some(number) => Value::Dec(number),
         None => Value::Null,
     }
 }
