@@ -15,6 +15,7 @@ import importlib.machinery
 import importlib.util
 import inspect
 import os
+import resource
 import shutil
 import sys
 import time
@@ -115,7 +116,14 @@ def main(words):
         tried(lib, *own)
         # In a gate a library's sum is made anew before it is proved and behind it.
         lib.Crate.stamp = stamps(lib, 0 if words[:1] == ["ci"] else 2)
-    return rt.main(words)
+    begun = time.monotonic()
+    status = rt.main(words)
+    if words[:1] == ["ci"]:
+        used = [resource.getrusage(it) for it in (resource.RUSAGE_SELF, resource.RUSAGE_CHILDREN)]
+        minutes = sum(it.ru_utime + it.ru_stime for it in used) / 60
+        clock = (time.monotonic() - begun) / 60
+        print(f"gate: {minutes:.0f} minutes of processor time, {clock:.0f} on the clock", file=sys.stderr)
+    return status
 
 
 if __name__ == "__main__":
