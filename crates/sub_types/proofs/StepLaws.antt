@@ -1,18 +1,18 @@
 -- What follows when truth values are made by whole bytes.
-use Rattle.std.proofs.Common.{◌≡◌, ◌≢◌, ◌∙◌, sym, ap, refl, ℕ, zero, suc, ◌+◌, ◌-◌, ◌*◌, ◌/◌, ◌%◌, ◌^◌, ◌<◌, ◌≤◌, List, [], ◌∷◌, ◌++◌, Bool, true, false, ◌&&◌, length, map, get_or, set, replicate, All, bit_or, bit_and, count_ones, count_by, cond, ◌↔◌, IsTrue, nat_eq, min, subst, inl, inr, arith}
+use Rattle.std.proofs.Common.{◌≡◌, ◌≢◌, ◌∙◌, sym, ap, refl, ℕ, zero, suc, ◌+◌, ◌-◌, ◌*◌, ◌/◌, ◌%◌, ◌^◌, ◌<◌, ◌≤◌, List, [], ◌∷◌, ◌++◌, Bool, true, false, ◌&&◌, ◌||◌, length, map, get_or, set, replicate, All, bit_or, bit_and, count_ones, count_by, cond, ◌↔◌, IsTrue, nat_eq, min, max, subst, inl, inr, arith}
 use Rattle.std.proofs.lemmas.Bool.{cases_eq, cases_lt, eqb-true, eq-eqb}
 use Rattle.std.proofs.lemmas.List.{get_or-set_same, get_or-set_other, get_or-replicate, get_or_append_left, get_or-append_right, get_or-map, length-append, length-map, length-replicate, get_or_past}
 use Rattle.std.proofs.lemmas.List.Elements.{All-get_or}
 use Rattle.std.proofs.lemmas.List.FromFn.{fill_by_all, length-range_with_len, length-map-range_with_len, get_or-map-range_with_len}
 use Rattle.std.proofs.lemmas.List.Sums.{sum_by-cons, sum_by-append, count_by-le-length}
-use Rattle.std.proofs.lemmas.Simd.{bit_mask_l, ones-mask_l}
-use Rattle.std.specs.Simd.Lanes.{mask_l}
+use Rattle.std.proofs.lemmas.Simd.{bit_mask_l, ones-mask_l, zip2-map}
+use Rattle.std.specs.Simd.Lanes.{mask_l, zip2}
 use Rattle.std.proofs.lemmas.Nat.{shr-shr, pow_pos}
 use Rattle.std.proofs.lemmas.Nat.Bits.{bit_at-zero, bit_at-lt, bit_at_lowest, bit_at_above, bit_at_or, bit_at_and, bit_at_ones, bit_at_ones_above, same_from_bits, bit_at_cat_low, bit_at_cat_high}
 use Rattle.std.specs.Int.{bit_at, from_bool}
 use Rattle.std.specs.List.{slice_range, range_with_len}
-use Rattle.sub_types.specs.Bits.{bit_of, bits_of}
-use Rattle.sub_types.specs.BitSteps.{is_set, both, IsMade, Continues, IsJoined, HoldsFrom, IsPushed, IsMasked}
+use Rattle.sub_types.specs.Bits.{bit_of, bits_of, IsPacked}
+use Rattle.sub_types.specs.BitSteps.{is_set, both, either, IsMade, Continues, IsJoined, HoldsFrom, IsPushed, IsZipped}
 use Rattle.sub_types.specs.PartLaws.{length-part, get_or-part}
 use Rattle.sub_types.proofs.BitLaws.{length-bits_of, get_or-bits_of}
 
@@ -273,83 +273,80 @@ pushed_more f count j byte new few lt p sofar (suc m) below =
     let e : suc m ≡ m + 1 = omega arith in
     ap (is_set new) e ∙ p.moved m (omega arith) ∙ sofar m (omega arith) ∙ ap f (omega arith)
 
--- ---- masks
+-- ---- two lists bit by bit
 
-pub length-both : (xs ys : List Bool) → length xs ≡ length ys → length (both xs ys) ≡ length xs
-length-both [] ys e = refl
-length-both (x ∷ xs) [] e = absurd (omega arith)
-length-both (x ∷ xs) (y ∷ ys) e = ap suc (length-both xs ys (omega arith))
+pub zip2-both : (xs ys : List Bool) → zip2 ◌&&◌ xs ys ≡ both xs ys
+zip2-both [] ys = refl
+zip2-both (x ∷ xs) [] = refl
+zip2-both (x ∷ xs) (y ∷ ys) = ap (λ rest. (x && y) ∷ rest) (zip2-both xs ys)
 
-pub get_or-both : (xs ys : List Bool) (k : ℕ) → k < length xs → length xs ≡ length ys → get_or (both xs ys) k false ≡ (get_or xs k false && get_or ys k false)
-get_or-both [] ys k lt e = absurd (omega arith)
-get_or-both (x ∷ xs) [] k lt e = absurd (omega arith)
-get_or-both (x ∷ xs) (y ∷ ys) zero lt e = refl
-get_or-both (x ∷ xs) (y ∷ ys) (suc k) lt e = get_or-both xs ys k (omega arith) (omega arith)
+pub zip2-either : (xs ys : List Bool) → zip2 ◌||◌ xs ys ≡ either xs ys
+zip2-either [] ys = refl
+zip2-either (x ∷ xs) [] = refl
+zip2-either (x ∷ xs) (y ∷ ys) = ap (λ rest. (x || y) ∷ rest) (zip2-either xs ys)
 
-min_and : (a b : ℕ) → a < 2 → b < 2 → nat_eq (min a b) 1 ≡ (nat_eq a 1 && nat_eq b 1)
-min_and zero zero s t = refl
-min_and zero (suc zero) s t = refl
-min_and (suc zero) zero s t = refl
-min_and (suc zero) (suc zero) s t = refl
-min_and (suc (suc a)) b s t = absurd (omega arith)
-min_and zero (suc (suc b)) s t = absurd (omega arith)
-min_and (suc zero) (suc (suc b)) s t = absurd (omega arith)
+-- an operation on bits is known by what it makes of zeros and ones
+on_bits : (f : ℕ → ℕ → ℕ) (op : Bool → Bool → Bool) → nat_eq (f 0 0) 1 ≡ op false false → nat_eq (f 0 1) 1 ≡ op false true → nat_eq (f 1 0) 1 ≡ op true false → nat_eq (f 1 1) 1 ≡ op true true → (a b : ℕ) → a < 2 → b < 2 → nat_eq (f a b) 1 ≡ op (nat_eq a 1) (nat_eq b 1)
+on_bits f op none second first all zero zero s t = none
+on_bits f op none second first all zero (suc zero) s t = second
+on_bits f op none second first all (suc zero) zero s t = first
+on_bits f op none second first all (suc zero) (suc zero) s t = all
+on_bits f op none second first all (suc (suc a)) b s t = absurd (omega arith)
+on_bits f op none second first all zero (suc (suc b)) s t = absurd (omega arith)
+on_bits f op none second first all (suc zero) (suc (suc b)) s t = absurd (omega arith)
 
 pub is_set-and : (a b k : ℕ) → is_set (bit_and a b) k ≡ (is_set a k && is_set b k)
-is_set-and a b k = ap (λ x. nat_eq x 1) (bit_at_and a b k) ∙ min_and (bit_at a k) (bit_at b k) (bit_at-lt a k) (bit_at-lt b k)
+is_set-and a b k = ap (λ x. nat_eq x 1) (bit_at_and a b k) ∙ on_bits min ◌&&◌ refl refl refl refl (bit_at a k) (bit_at b k) (bit_at-lt a k) (bit_at-lt b k)
 
-pub IsMasked-none : (old which : List ℕ) → IsMasked old which old 0
-IsMasked-none old which = record { masked = λ k lt. absurd (omega arith); rest = λ k le. refl }
+pub is_set-or : (a b k : ℕ) → is_set (bit_or a b) k ≡ (is_set a k || is_set b k)
+is_set-or a b k = ap (λ x. nat_eq x 1) (bit_at_or a b k) ∙ on_bits max ◌||◌ refl refl refl refl (bit_at a k) (bit_at b k) (bit_at-lt a k) (bit_at-lt b k)
 
-pub IsMasked-more : (old which new : List ℕ) (i : ℕ) → i < length new → IsMasked old which new i → IsMasked old which (set new i (bit_and (get_or new i 0) (get_or which i 0))) (i + 1)
-IsMasked-more old which new i within m = record { masked = masked; rest = rest }
+pub IsZipped-none : (op : Bool → Bool → Bool) (old which : List ℕ) → IsZipped op old which old 0
+IsZipped-none op old which = record { zipped = λ k lt. absurd (omega arith); rest = λ k le. refl }
+
+-- a byte more
+pub IsZipped-more : (op : Bool → Bool → Bool) (old which new : List ℕ) (i byte : ℕ) → i < length new → ((k : ℕ) → is_set byte k ≡ op (is_set (get_or new i 0) k) (is_set (get_or which i 0) k)) → IsZipped op old which new i → IsZipped op old which (set new i byte) (i + 1)
+IsZipped-more op old which new i byte within made z = record { zipped = zipped; rest = rest }
   where
-    byte : ℕ
-    byte = bit_and (get_or new i 0) (get_or which i 0)
-
-    masked : (k : ℕ) → k < 8 * (i + 1) → bit_of (set new i byte) k ≡ (bit_of old k && bit_of which k)
-    masked k lt = elim (cases_lt k (8 * i)) [
+    zipped : (k : ℕ) → k < 8 * (i + 1) → bit_of (set new i byte) k ≡ op (bit_of old k) (bit_of which k)
+    zipped k lt = elim (cases_lt k (8 * i)) [
       | inl below ↦
           let away : k / 8 ≢ i = λ e. absurd (omega arith) in
-          bit_of-set_other new i byte k away ∙ m.masked k below
+          bit_of-set_other new i byte k away ∙ z.zipped k below
       | inr above ↦
           let here : k / 8 ≡ i = omega arith in
           bit_of-set_same new i byte k within here
-          ∙ is_set-and (get_or new i 0) (get_or which i 0) (k % 8)
-          ∙ ap (λ j. nat_eq (bit_at (get_or new j 0) (k % 8)) 1 && nat_eq (bit_at (get_or which j 0) (k % 8)) 1) (sym here)
-          ∙ ap (λ x. x && bit_of which k) (m.rest k above)
+          ∙ made (k % 8)
+          ∙ ap (λ j. op (is_set (get_or new j 0) (k % 8)) (is_set (get_or which j 0) (k % 8))) (sym here)
+          ∙ ap (λ x. op x (bit_of which k)) (z.rest k above)
     ]
 
     rest : (k : ℕ) → 8 * (i + 1) ≤ k → bit_of (set new i byte) k ≡ bit_of old k
     rest k le =
         let away : k / 8 ≢ i = λ e. absurd (omega arith) in
-        bit_of-set_other new i byte k away ∙ m.rest k (omega arith)
+        bit_of-set_other new i byte k away ∙ z.rest k (omega arith)
 
-pub IsMasked-view : (old which new : List ℕ) (n i : ℕ) → n ≤ 8 * i → IsMasked old which new i → bits_of n new ≡ both (bits_of n old) (bits_of n which)
-IsMasked-view old which new n i le m = sym (fill_by_all (bit_of new) (both (bits_of n old) (bits_of n which)) n false long each)
-  where
-    same : length (bits_of n old) ≡ length (bits_of n which)
-    same = length-bits_of n old ∙ sym (length-bits_of n which)
+pub IsZipped-view : (op : Bool → Bool → Bool) (old which new : List ℕ) (n i : ℕ) → n ≤ 8 * i → IsZipped op old which new i → bits_of n new ≡ zip2 op (bits_of n old) (bits_of n which)
+IsZipped-view op old which new n i le z =
+    fill_by_all (λ k. op (bit_of old k) (bit_of which k)) (bits_of n new) n false (length-bits_of n new) (λ k lt. get_or-bits_of n new k false lt ∙ z.zipped k (omega arith))
+    ∙ sym (zip2-map op (bit_of old) (bit_of which) (range_with_len 0 n))
 
-    long : length (both (bits_of n old) (bits_of n which)) ≡ n
-    long = length-both (bits_of n old) (bits_of n which) same ∙ length-bits_of n old
+same_count : (old which : List ℕ) (n k : ℕ) (xs ys : List Bool) → bits_of n old ≡ xs → bits_of k which ≡ ys → length ys ≡ length xs → k ≡ n
+same_count old which n k xs ys xs_is ys_is long = sym (length-bits_of k which) ∙ ap length ys_is ∙ long ∙ sym (ap length xs_is) ∙ length-bits_of n old
 
-    each : (k : ℕ) → k < n → get_or (both (bits_of n old) (bits_of n which)) k false ≡ bit_of new k
-    each k lt =
-        let within : k < length (bits_of n old) = omega (arith, length-bits_of n old) in
-        get_or-both (bits_of n old) (bits_of n which) k within same
-        ∙ ap (λ x. x && get_or (bits_of n which) k false) (get_or-bits_of n old k false lt)
-        ∙ ap (λ y. bit_of old k && y) (get_or-bits_of n which k false lt)
-        ∙ sym (m.masked k (omega arith))
+-- lists of one length stand in as many bytes
+pub same_bytes : (old which : List ℕ) (n k : ℕ) (xs ys : List Bool) → bits_of n old ≡ xs → bits_of k which ≡ ys → length ys ≡ length xs → IsPacked n old → IsPacked k which → length which ≡ length old
+same_bytes old which n k xs ys xs_is ys_is long own other = omega (arith, same_count old which n k xs ys xs_is ys_is long, own.enough, own.no_more, other.enough, other.no_more)
 
-pub mask_view : (old which read_old read_which new : List ℕ) (n k : ℕ) (xs ys : List Bool) → read_old ≡ old → read_which ≡ which → bits_of n old ≡ xs → bits_of k which ≡ ys → k ≡ n → n ≤ 8 * length read_old → IsMasked read_old read_which new (length read_old) → bits_of n new ≡ both xs ys
-mask_view old which read_old read_which new n k xs ys same_old same_which xs_is ys_is long le m =
-    IsMasked-view read_old read_which new n (length read_old) le m
-    ∙ ap (λ bytes. both (bits_of n bytes) (bits_of n read_which)) same_old
-    ∙ ap (λ bytes. both (bits_of n old) (bits_of n bytes)) same_which
-    ∙ ap (λ j. both (bits_of n old) (bits_of j which)) (sym long)
-    ∙ ap (λ bits. both bits (bits_of k which)) xs_is
-    ∙ ap (both xs) ys_is
+pub zipped_view : (op : Bool → Bool → Bool) (old which read_old read_which new : List ℕ) (n k : ℕ) (xs ys : List Bool) → read_old ≡ old → read_which ≡ which → bits_of n old ≡ xs → bits_of k which ≡ ys → length ys ≡ length xs → IsPacked n old → IsZipped op read_old read_which new (length read_old) → bits_of n new ≡ zip2 op xs ys
+zipped_view op old which read_old read_which new n k xs ys same_old same_which xs_is ys_is long packed z =
+    let enough : n ≤ 8 * length read_old = omega (arith, packed.enough, ap length same_old) in
+    IsZipped-view op read_old read_which new n (length read_old) enough z
+    ∙ ap (λ bytes. zip2 op (bits_of n bytes) (bits_of n read_which)) same_old
+    ∙ ap (λ bytes. zip2 op (bits_of n old) (bits_of n bytes)) same_which
+    ∙ ap (λ j. zip2 op (bits_of n old) (bits_of j which)) (sym (same_count old which n k xs ys xs_is ys_is long))
+    ∙ ap (λ bits. zip2 op bits (bits_of k which)) xs_is
+    ∙ ap (zip2 op xs) ys_is
 
 -- ---- all true
 

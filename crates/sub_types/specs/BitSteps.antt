@@ -1,5 +1,5 @@
 -- Truth values made by whole bytes: what one byte is, and what a loop over bytes has reached.
-use Rattle.std.specs.Prelude.{◌≡◌, ℕ, ◌+◌, ◌-◌, ◌*◌, ◌<◌, ◌≤◌, ◌==◌, ◌&&◌, List, [], ◌∷◌, Bool}
+use Rattle.std.specs.Prelude.{◌≡◌, ℕ, ◌+◌, ◌-◌, ◌*◌, ◌<◌, ◌≤◌, ◌==◌, ◌&&◌, ◌||◌, List, [], ◌∷◌, Bool}
 use Rattle.std.specs.Int.{bit_at}
 use Rattle.sub_types.specs.Bits.{bit_of}
 
@@ -12,6 +12,12 @@ abbrev pub both : List Bool → List Bool → List Bool
 both [] ys = []
 both (x ∷ xs) [] = []
 both (x ∷ xs) (y ∷ ys) = (x && y) ∷ both xs ys
+
+-- each value or the one at the same place, as long as both have one
+abbrev pub either : List Bool → List Bool → List Bool
+either [] ys = []
+either (x ∷ xs) [] = []
+either (x ∷ xs) (y ∷ ys) = (x || y) ∷ either xs ys
 
 -- of n bits that a function gives, those of the first i bytes stand
 pub record IsMade (f : ℕ → Bool) (n : ℕ) (bytes : List ℕ) (i : ℕ) : Type 0 where
@@ -36,7 +42,7 @@ pub record IsPushed (old : ℕ) (bit : Bool) (new : ℕ) : Type 0 where
   pub lowest : is_set new 0 ≡ bit
   pub moved : (k : ℕ) → k < 7 → is_set new (k + 1) ≡ is_set old k
 
--- the bits of the first i bytes are masked, and the others as they were
-pub record IsMasked (old which new : List ℕ) (i : ℕ) : Type 0 where
-  pub masked : (k : ℕ) → k < 8 * i → bit_of new k ≡ (bit_of old k && bit_of which k)
+-- the bits of the first i bytes are what an operation makes of two lists' bits, and the others as they were
+pub record IsZipped (op : Bool → Bool → Bool) (old which new : List ℕ) (i : ℕ) : Type 0 where
+  pub zipped : (k : ℕ) → k < 8 * i → bit_of new k ≡ op (bit_of old k) (bit_of which k)
   pub rest : (k : ℕ) → 8 * i ≤ k → bit_of new k ≡ bit_of old k

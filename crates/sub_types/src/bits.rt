@@ -1,8 +1,8 @@
 // Truth values, packed eight to a byte, the least bit first, as the Arrow columnar format lays out a bitmap.
-ghost use Rattle.std.specs.Prelude.{◌≡◌, ◌≢◌, ◌+◌, ◌*◌, ◌<◌, ◌≤◌, ℕ, List, [], ◌∷◌, ◌++◌, true, false, length, take, replicate, slice_set, slice_index, slice_index_or, ◌/◌, ◌%◌, ◌^◌, map, All, count_by, OnOk, OnErr, IfOk, IsTrue, ◌↔◌};
+ghost use Rattle.std.specs.Prelude.{◌≡◌, ◌≢◌, ◌+◌, ◌*◌, ◌<◌, ◌≤◌, ◌&&◌, ◌||◌, ℕ, List, [], ◌∷◌, ◌++◌, true, false, length, take, replicate, slice_set, slice_index, slice_index_or, ◌/◌, ◌%◌, ◌^◌, map, All, count_by, OnOk, OnErr, IfOk, IsTrue, ◌↔◌};
 ghost use Rattle.std.specs.List.{slice_range, range_with_len};
 ghost use Rattle.sub_types.specs.Bits.{bit_of, bits_of, IsPacked};
-ghost use Rattle.sub_types.specs.BitSteps.{is_set, both, IsMade, Continues, IsJoined, HoldsFrom, IsPushed, IsMasked};
+ghost use Rattle.sub_types.specs.BitSteps.{is_set, both, either, IsMade, Continues, IsJoined, HoldsFrom, IsPushed, IsZipped};
 
 use crate::NoMemory;
 use std::alloc::Global;
@@ -156,6 +156,14 @@ impl Bits {
         ensures { self.new ≡ both self.old which.now }
     {
         and_bytes(&mut self.bytes, &which.bytes);
+    }
+
+    /// Each one or the one at the same place of `which`. It takes no memory.
+    pub fn unite(&mut self, which: &Bits)
+        requires { length which.now ≡ length self.old }
+        ensures { self.new ≡ either self.old which.now }
+    {
+        or_bytes(&mut self.bytes, &which.bytes);
     }
 
     /// How many are true.
@@ -391,11 +399,22 @@ fn pushed(byte: u8, bit: bool) -> u8
 // Each byte and the one at the same place of `which`.
 fn and_bytes(bytes: &mut [u8], which: &[u8])
     requires { length which.now ≡ length bytes.old }
-    ensures masked { IsMasked bytes.old which.now bytes.new (length bytes.old) }
+    ensures zipped { IsZipped ◌&&◌ bytes.old which.now bytes.new (length bytes.old) }
     ensures len { length bytes.new ≡ length bytes.old }
 {
     for i in 0..bytes.len() {
         bytes[i] = bytes[i] & which[i];
+    }
+}
+
+// Each byte or the one at the same place of `which`.
+fn or_bytes(bytes: &mut [u8], which: &[u8])
+    requires { length which.now ≡ length bytes.old }
+    ensures zipped { IsZipped ◌||◌ bytes.old which.now bytes.new (length bytes.old) }
+    ensures len { length bytes.new ≡ length bytes.old }
+{
+    for i in 0..bytes.len() {
+        bytes[i] = bytes[i] | which[i];
     }
 }
 

@@ -102,6 +102,46 @@ fn masks(alloc: Global, n: usize) -> bool {
     are_same(&bits, &want) && counts(&bits)
 }
 
+// Values of two lists at each place, and what either of them says there.
+const UNITED: [(bool, bool, bool); 19] = [
+    (false, false, false),
+    (false, true, true),
+    (true, false, true),
+    (true, true, true),
+    (true, false, true),
+    (false, false, false),
+    (true, true, true),
+    (false, true, true),
+    (true, false, true),
+    (false, false, false),
+    (false, false, false),
+    (true, true, true),
+    (false, true, true),
+    (false, false, false),
+    (true, false, true),
+    (false, false, false),
+    (false, true, true),
+    (true, false, true),
+    (false, false, false),
+];
+
+// Whether the first so many of them are united to what stands beside them.
+fn unites(alloc: Global, rows: &[(bool, bool, bool)]) -> bool {
+    let mut bits = Bits::new(alloc);
+    let mut which = Bits::new(alloc);
+    let mut want = Bits::new(alloc);
+    for (own, other, either) in rows {
+        let _ = bits.push(*own);
+        let _ = which.push(*other);
+        let _ = want.push(*either);
+    }
+    if which.len() != bits.len() {
+        return false;
+    }
+    bits.unite(&which);
+    are_same(&bits, &want) && counts(&bits)
+}
+
 // Whether they are counted as one by one.
 fn counts(bits: &Bits) -> bool {
     let mut left = bits.count();
@@ -139,6 +179,17 @@ fn whole_bytes_as_single_ones(rt: HostRuntime) {
     for n in 0..71 {
         let fine = are_ones(alloc, n) && masks(alloc, n);
         assert!(rt; fine);
+    }
+}
+
+#[test]
+fn either_of_two_lists(rt: HostRuntime) {
+    let alloc = rt.alloc();
+    for n in 0..20 {
+        if n <= UNITED.len() {
+            let (rows, _) = UNITED.split_at(n);
+            assert!(rt; unites(alloc, rows));
+        }
     }
 }
 
