@@ -1,3 +1,4 @@
+pub mod CodeLaws
 pub mod SameLaws
 pub mod PlaceLaws
 pub mod DistinctLaws

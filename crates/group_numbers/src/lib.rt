@@ -2,6 +2,7 @@
 //! that its key is, or by the key's bytes, and a key is kept only for a new group.
 #![tactic(auto)]
 
+mod codes;
 mod keys;
 mod numbers;
 mod twins;

@@ -1,7 +1,7 @@
 use Rattle.std.proofs.Common.{◌≡◌, ◌≤◌, length}
 use Rattle.std.specs.List.{All}
 use Rattle.group_numbers.specs.Twins.{AreTwins}
-use Rattle.group_numbers.proofs.twins.twins_of.Given as goal
+use Rattle.group_numbers.proofs.twins.twins_by_hashes.Given as goal
 
 -- the rows so far
 abbrev pub invariant-loop-row : goal.invariant-loop-row
