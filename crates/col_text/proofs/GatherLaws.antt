@@ -4,7 +4,7 @@ use Rattle.std.specs.List.{slice_range, concat}
 use Rattle.std.proofs.lemmas.List.{take_more, map-append, length-map, append-nil, get_or-map, get_or-replicate}
 use Rattle.sub_types.specs.Slots.{slots, length-slots}
 use Rattle.sub_types.specs.PartLaws.{part-map, get_or-part, length-part}
-use Rattle.col_text.specs.Text.{ends_of, values_at, texts_at, HoldsTexts}
+use Rattle.col_text.specs.Text.{ends_of, picked, values_at, texts_at, HoldsTexts}
 use Rattle.col_text.proofs.TextLaws.{concat-append, ends_of-append, concat-one}
 
 -- a value as it is stored
@@ -29,10 +29,13 @@ text_of_part column part from len i within is below =
     concat-one texts (from + i) (omega (arith, length-slots [] column)) ∙ sym (get_or-part texts from (from + len) i [] (omega arith)) ∙ ap (λ xs. get_or xs i []) same
 
 -- the texts of one place more
-pub texts_at-more : (column : List (Option (List ℕ))) (at : List ℕ) (k : ℕ) → k < length at → texts_at column (take (k + 1) at) ≡ texts_at column (take k at) ++ get_or (slots [] column) (get_or at k 0) [] ∷ []
-texts_at-more column at k below =
-    let pick = λ (i : ℕ). get_or (slots [] column) i [] in
+pub picked-more : (texts : List (List ℕ)) (at : List ℕ) (k : ℕ) → k < length at → picked texts (take (k + 1) at) ≡ picked texts (take k at) ++ get_or texts (get_or at k 0) [] ∷ []
+picked-more texts at k below =
+    let pick = λ (i : ℕ). get_or texts i [] in
     ap (map pick) (take_more at k 0 below) ∙ map-append pick (take k at) (get_or at k 0 ∷ [])
+
+pub texts_at-more : (column : List (Option (List ℕ))) (at : List ℕ) (k : ℕ) → k < length at → texts_at column (take (k + 1) at) ≡ texts_at column (take k at) ++ get_or (slots [] column) (get_or at k 0) [] ∷ []
+texts_at-more column = picked-more (slots [] column)
 
 -- one text more
 pub ends_of-push : (texts : List (List ℕ)) (text : List ℕ) (end : ℕ) → end ≡ length (concat texts) → ends_of 0 (texts ++ text ∷ []) ≡ ends_of 0 texts ++ (end + length text) ∷ []

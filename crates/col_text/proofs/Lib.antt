@@ -2,3 +2,4 @@ pub mod TextLaws
 pub mod PartsLaws
 pub mod GatherLaws
 pub mod EndLaws
+pub mod NarrowLaws

@@ -60,7 +60,7 @@ HoldsTexts-parts ends bytes valid parts =
     }
 
 -- the ends of texts rise
-Rise-ends_of : (texts : List (List ℕ)) (start size : ℕ) → start + length (concat texts) ≡ size → Rise start (ends_of start texts) size
+pub Rise-ends_of : (texts : List (List ℕ)) (start size : ℕ) → start + length (concat texts) ≡ size → Rise start (ends_of start texts) size
 Rise-ends_of [] start size whole = omega arith
 Rise-ends_of (text ∷ texts) start size whole =
     (omega arith, Rise-ends_of texts (start + length text) size (omega (arith, length-append text (concat texts))))

@@ -108,7 +108,7 @@ ends_of-more start texts i below =
     ap (ends_of start) (take_more texts i [] below) ∙ ends_of-append start (take i texts) (get_or texts i [] ∷ []) ∙ ap (λ n. ends_of start (take i texts) ++ n ∷ []) place
 
 -- the first texts, some more and the rest
-take-between : (texts : List (List ℕ)) (a b : ℕ) → a ≤ b → b ≤ length texts → take b texts ≡ take a texts ++ slice_range texts a b
+pub take-between : (texts : List (List ℕ)) (a b : ℕ) → a ≤ b → b ≤ length texts → take b texts ≡ take a texts ++ slice_range texts a b
 take-between texts a b rising within =
     same_lists _ _ (simp (length-take, length-append, length-drop) (omega arith)) (λ k d h. grind (arith, places))
 

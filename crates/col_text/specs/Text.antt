@@ -40,12 +40,16 @@ pub record AreParts (ends bytes : List ℕ) (valid : List Bool) : Type 0 where
   pub counted : length ends ≡ length valid
   pub empty : NullsAreEmpty 0 ends valid
 
+-- the texts at some places
+abbrev pub picked : List (List ℕ) → List ℕ → List (List ℕ)
+picked texts at = map (λ i. slice_index_or texts i []) at
+
 -- the values at some places, and their texts
 abbrev pub values_at : List (Option (List ℕ)) → List ℕ → List (Option (List ℕ))
 values_at column at = map (λ i. slice_index_or column i None) at
 
 abbrev pub texts_at : List (Option (List ℕ)) → List ℕ → List (List ℕ)
-texts_at column at = map (λ i. slice_index_or (slots [] column) i []) at
+texts_at column at = picked (slots [] column) at
 
 -- whether an end is below 2^32 once it is moved by a number that wraps round
 abbrev pub moves_below : ℕ → ℕ → Bool

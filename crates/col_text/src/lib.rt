@@ -5,6 +5,7 @@
 mod builder;
 mod column;
 mod ends;
+mod narrow;
 mod view;
 
 pub use builder::TextBuilder;

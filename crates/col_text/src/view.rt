@@ -1,9 +1,10 @@
 // A column of texts or binaries, or a part of one, lent without a copy.
-ghost use Rattle.std.specs.Prelude.{◌≡◌, ◌↔◌, ◌+◌, ◌^◌, ◌<◌, ◌≤◌, ◌++◌, [], None, length, map, is_some, slice_index_or, option_copied, All, OnOk, OnErr, IfOk, IsTrue};
+ghost use Rattle.std.specs.Prelude.{◌≡◌, ◌↔◌, ◌+◌, ◌^◌, ◌<◌, ◌≤◌, ◌++◌, [], None, length, map, is_some, slice_index_or, option_copied, All, OnOk, OnErr, IfOk, IfSome, IsTrue};
 ghost use Rattle.std.specs.List.{slice_range, concat};
 ghost use Rattle.sub_types.specs.Slots.{slots};
 ghost use Rattle.col_text.specs.Text.{ends_of, offset_of, values_at, texts_at};
 
+use crate::narrow::NarrowTexts;
 use crate::{Ends, TextCol};
 use std::alloc::Global;
 use std::marker::Model;
@@ -137,9 +138,29 @@ impl<'a> TextView<'a> {
         requires { valid ≡ map is_some (values_at self.now at.now) }
         ensures { IfOk result (λ column. column ≡ map (λ i. slice_index_or self.now i None) at.now) }
     {
+        if let Some(texts) = self.narrow_texts() {
+            let (ends, size) = texts.gather_ends(alloc, at)?;
+            if size < 1 << 32 {
+                let bytes = texts.gather_bytes(alloc, at, size)?;
+                return Ok(TextCol::from_ends(Ends::from_narrow(alloc, ends), bytes, valid));
+            }
+        }
         let ends = self.gather_ends(alloc, at)?;
         let bytes = self.gather_bytes(alloc, at, ends.last())?;
         Ok(TextCol::from_ends(ends, bytes, valid))
+    }
+
+    // The texts, if their ends take four bytes each. A null's is empty.
+    fn narrow_texts(&self) -> Option<NarrowTexts<'a>>
+        ensures { IfSome result (λ texts. texts ≡ slots [] self.now) }
+    {
+        let end = self.from + self.len;
+        let Some(ends) = self.column.ends().narrow() else {
+            return None;
+        };
+        let (first, _) = self.column.extent(self.from, end);
+        let bytes = self.column.bytes_between(0, end);
+        Some(NarrowTexts::new(first, &ends[self.from..end], bytes))
     }
 
     // The bytes of one value. A null has none, and neither has a place where there is no value.
