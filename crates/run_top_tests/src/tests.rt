@@ -2,6 +2,8 @@
 mod answered;
 mod demo;
 mod files;
+mod meeting;
 mod plans;
+mod reads;
 mod report;
 mod texts;

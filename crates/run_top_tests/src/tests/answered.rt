@@ -6,7 +6,7 @@ use std::marker::Sync;
 use std::sync::Wait;
 use std::thread::Threads;
 use sub_types::{NoMemory, Word};
-use world::{MemFolder, MemNotes, OpenGate};
+use world::{Gate, MemFolder, MemNotes, OpenGate};
 
 #[derive(Drop)]
 pub(super) struct Answered {
@@ -21,12 +21,23 @@ pub(super) fn run_words<H: Threads + Wait + Sync>(
     folder: &mut MemFolder,
     texts: &[&str],
 ) -> Result<Answered, NoMemory> {
+    run_words_at(rt, alloc, folder, texts, &OpenGate)
+}
+
+// The same, with a gate before each batch.
+pub(super) fn run_words_at<H: Threads + Wait + Sync, G: Gate>(
+    rt: &H,
+    alloc: Global,
+    folder: &mut MemFolder,
+    texts: &[&str],
+    gate: &G,
+) -> Result<Answered, NoMemory> {
     let mut words = Vec::new(alloc);
     for text in texts {
         words.push(Word::of(alloc, text)?)?;
     }
     let mut notes = MemNotes::new(alloc);
-    let status = run_main(rt, alloc, &words, folder, &mut notes, &OpenGate);
+    let status = run_main(rt, alloc, &words, folder, &mut notes, gate);
     Ok(Answered {
         status,
         line: notes.text().to_vec(alloc)?,
