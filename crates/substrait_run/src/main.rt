@@ -20,6 +20,3 @@ fn main(rt: HostRuntime) -> ExitCode {
     let status = command_main(&rt, rt.alloc(), &words, &mut folder, &mut notes, &OpenGate);
     ExitCode::from(exit_number(&status))
 }
-
-#[cfg(test)]
-mod tests;

@@ -1,6 +1,6 @@
 // Plans that are written, run and read back over real files, and folders in the place of files.
-use crate::notes::StdNotes;
 use run_top::{command_main, exit_number};
+use std::alloc::Global;
 use std::fs;
 use std::fs::File;
 use std::marker::Sync;
@@ -10,7 +10,7 @@ use std::test::Fail;
 use std::thread::Threads;
 use std_folder::StdFolder;
 use sub_types::Word;
-use world::{Folder, OpenGate, Reader};
+use world::{Folder, MemNotes, OpenGate, Reader};
 
 // One column x of whole numbers, with the rows 1, 2 and -1.
 const PLAN: [u8; 53] = [
@@ -26,16 +26,17 @@ const NAMED_PLAN: [u8; 29] = [
     0x04, 0x3A, 0x02, 0x10, 0x02, 0x3A, 0x03, 0x0A, 0x01, 0x74, 0x12, 0x01, 0x78,
 ];
 
-// The number that the program ends with after these words.
-fn number_after<
-    H: Files<File = File> + Alloc<A = std::alloc::Global> + Print + Threads + Wait + Sync,
->(rt: &H, texts: &[&str]) -> Result<u8, Fail> {
+// The number of the command's answer to these words.
+fn number_after<H: Files<File = File> + Alloc<A = Global> + Threads + Wait + Sync>(
+    rt: &H,
+    texts: &[&str],
+) -> Result<u8, Fail> {
     let mut words = Vec::new(rt.alloc());
     for text in texts {
         words.push(Word::of(rt.alloc(), text)?)?;
     }
     let mut folder = StdFolder::new(rt);
-    let mut notes = StdNotes::new(rt);
+    let mut notes = MemNotes::new(rt.alloc());
     let status = command_main(rt, rt.alloc(), &words, &mut folder, &mut notes, &OpenGate);
     Ok(exit_number(&status))
 }
