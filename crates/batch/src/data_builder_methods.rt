@@ -123,20 +123,4 @@ impl DataBuilder {
             _ => unreachable!(),
         }
     }
-
-    /// The column of all that was added.
-    pub(crate) fn finish(self) -> ColumnData
-        ensures values { values_of result ≡ built self }
-        ensures storage { storage_of result ≡ built_storage self }
-    {
-        match self {
-            DataBuilder::Bool(builder) => ColumnData::Bool(builder.finish()),
-            DataBuilder::I8(builder) => ColumnData::I8(builder.finish()),
-            DataBuilder::I16(builder) => ColumnData::I16(builder.finish()),
-            DataBuilder::I32(builder) => ColumnData::I32(builder.finish()),
-            DataBuilder::I64(builder) => ColumnData::I64(builder.finish()),
-            DataBuilder::I128(builder) => ColumnData::I128(builder.finish()),
-            DataBuilder::Bytes(builder) => ColumnData::Bytes(builder.finish()),
-        }
-    }
 }
