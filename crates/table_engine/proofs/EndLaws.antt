@@ -39,7 +39,7 @@ use Rattle.pipe_feeds.proofs.KeptLaws.{kept_at}
 use Rattle.pipe_flows.specs.Inputs.{columns_of, told_by, IsOpenFor, TellsRows}
 use Rattle.table_engine.specs.Inputs.{AreTablesOf}
 use Rattle.read_laws.specs.Typed.{IsTypedRead}
-use Rattle.table_engine.specs.Stands.{ArePipesOn, HaveRun, StandsFor, types_in}
+use Rattle.pipe_runs.specs.Stands.{ArePipesOn, HaveRun, StandsFor, types_in}
 use Rattle.read_laws.proofs.TypedLaws.{typed_reads}
 use Rattle.table_engine.proofs.FitLaws.{stream_fits}
 use Rattle.table_engine.proofs.RunLaws.{run_is, pipes_on}

@@ -1,8 +1,5 @@
 mod BodyLaws
 mod EndLaws
-mod FeedLaws
-mod GatherLaws
-mod PipeLaws
 mod RunLaws
 mod FitLaws
 mod ErrorLaws

@@ -24,7 +24,7 @@ use Rattle.fed_laws.specs.Fed.{AreFedBy, FeedAll, Feeds, IsFedBy}
 use Rattle.pipe_feeds.specs.Kept.{AreTypedAs}
 use Rattle.pipe_flows.specs.Inputs.{columns_of, told_by}
 use Rattle.pipe_flows.specs.Receipts.{IsReceiptAt}
-use Rattle.table_engine.specs.Stands.{IsPipeOn, ArePipesOn, HasRunPipe, HaveRun, StandsFor, builds, types_in}
+use Rattle.pipe_runs.specs.Stands.{IsPipeOn, ArePipesOn, HasRunPipe, HaveRun, StandsFor, builds, types_in}
 use Rattle.pipe_feeds.specs.declared.stores.Stores.{Stores}
 
 -- run in order

@@ -22,14 +22,13 @@ ghost use Rattle.pipe_flows.specs.Inputs.{columns_of, reads_seen, IsOpenFor};
 ghost use Rattle.pipe_flows.specs.Receipts.{IsReceiptAt};
 ghost use Rattle.table_engine.specs.Bodies.{AreBodiesRead};
 ghost use Rattle.table_engine.specs.Inputs.{gathered_stream, AreTablesOf};
-ghost use Rattle.table_engine.specs.Stands as spec;
+ghost use Rattle.pipe_runs.specs.Stands as spec;
 
-use crate::pipe::run_pipe;
 use batch::Batch;
 use open_blocks::ReadFiles;
 use piece_batches::{EndedBatches, in_batches};
 use pipe_feeds::{Stores, take_stored};
-use pipe_flows::Crew;
+use pipe_runs::{Crew, run_pipe};
 use plan_cut::cut;
 use plan_leaves::Items;
 use plan_pipes::Pipe;

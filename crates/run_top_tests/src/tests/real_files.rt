@@ -1,4 +1,4 @@
-// Plans that are written, run and read back over real files, and folders in the place of files.
+// Plans that are run over real files, and folders in the place of files.
 use run_top::{command_main, exit_number};
 use std::alloc::Global;
 use std::fs;
@@ -6,11 +6,10 @@ use std::fs::File;
 use std::marker::Sync;
 use std::rt::Files;
 use std::sync::Wait;
-use std::test::Fail;
 use std::thread::Threads;
 use std_folder::StdFolder;
-use sub_types::Word;
-use world::{Folder, MemNotes, OpenGate, Reader};
+use sub_types::{NoMemory, Word};
+use world::{MemNotes, OpenGate};
 
 // One column x of whole numbers, with the rows 1, 2 and -1.
 const PLAN: [u8; 53] = [
@@ -30,70 +29,87 @@ const NAMED_PLAN: [u8; 29] = [
 fn number_after<H: Files<File = File> + Alloc<A = Global> + Threads + Wait + Sync>(
     rt: &H,
     texts: &[&str],
-) -> Result<u8, Fail> {
-    let mut words = Vec::new(rt.alloc());
-    for text in texts {
-        words.push(Word::of(rt.alloc(), text)?)?;
+) -> Option<u8> {
+    match words_of(rt.alloc(), texts) {
+        Ok(words) => Some(answered(rt, &words)),
+        Err(NoMemory) => None,
     }
+}
+
+fn answered<H: Files<File = File> + Alloc<A = Global> + Threads + Wait + Sync>(
+    rt: &H,
+    words: &[Word],
+) -> u8 {
     let mut folder = StdFolder::new(rt);
     let mut notes = MemNotes::new(rt.alloc());
-    let status = command_main(rt, rt.alloc(), &words, &mut folder, &mut notes, &OpenGate);
-    Ok(exit_number(&status))
+    let status = command_main(rt, rt.alloc(), words, &mut folder, &mut notes, &OpenGate);
+    exit_number(&status)
+}
+
+fn words_of(alloc: Global, texts: &[&str]) -> Result<Vec<Word>, NoMemory> {
+    let mut words = Vec::new(alloc);
+    for text in texts {
+        words.push(Word::of(alloc, text)?)?;
+    }
+    Ok(words)
+}
+
+fn puts(rt: &HostRuntime, name: &str, bytes: &[u8]) -> bool {
+    fs::write(rt, name, bytes).is_ok()
+}
+
+// The bytes of the named file, or none.
+fn bytes_of(rt: &HostRuntime, name: &str) -> Vec<u8> {
+    match fs::read(rt, name) {
+        Ok(bytes) => bytes,
+        Err(_) => Vec::new(rt.alloc()),
+    }
+}
+
+fn has_at(bytes: &[u8], from: usize, wanted: &[u8]) -> bool {
+    match bytes.get(from..) {
+        Some(rest) => rest.starts_with(wanted),
+        None => false,
+    }
+}
+
+fn first_false(seen: &[bool]) -> Option<usize> {
+    seen.iter().position(|held| !*held)
 }
 
 #[test]
-#[tactic(auto, unfolding(world::specs::Files::Has))]
-fn plan_over_real_files(rt: HostRuntime) -> Result<(), Fail> {
-    let mut folder = StdFolder::new(&rt);
-    folder.create(rt.alloc(), "written.plan")?;
-    folder.append(rt.alloc(), "written.plan", &PLAN[..20])?;
-    folder.append(rt.alloc(), "written.plan", &PLAN[20..])?;
-    let words = ["run", "written.plan", "written.arrow", "2"];
-    assert_eq!(rt; number_after(&rt, &words)?, 0);
-    let Some(mut reader) = folder.reader(rt.alloc(), "written.arrow")? else {
-        return Err(Fail::new("no out file"));
-    };
-    assert_eq!(rt; reader.len()?, 546);
-    let mut bytes = [0u8; 546];
-    reader.read_at(rt.alloc(), 0, &mut bytes)?;
-    folder.give_back(rt.alloc(), reader)?;
-    assert_eq!(rt; &bytes[..8], b"ARROW1\0\0".as_slice());
-    assert_eq!(rt; &bytes[312..320], [1, 0, 0, 0, 0, 0, 0, 0].as_slice());
-    assert_eq!(rt; &bytes[320..328], [2, 0, 0, 0, 0, 0, 0, 0].as_slice());
-    assert_eq!(rt;
-        &bytes[328..336],
-        [255, 255, 255, 255, 255, 255, 255, 255].as_slice()
-    );
-    assert_eq!(rt; &bytes[540..], b"ARROW1".as_slice());
-    Ok(())
+fn plan_over_real_files(rt: HostRuntime) {
+    let put = puts(&rt, "written.plan", &PLAN);
+    let number = number_after(&rt, &["run", "written.plan", "written.arrow", "2"]);
+    let bytes = bytes_of(&rt, "written.arrow");
+    let seen = [
+        put,
+        number == Some(0),
+        bytes.len() == 546,
+        has_at(&bytes, 0, b"ARROW1\0\0"),
+        has_at(&bytes, 312, &[1, 0, 0, 0, 0, 0, 0, 0]),
+        has_at(&bytes, 320, &[2, 0, 0, 0, 0, 0, 0, 0]),
+        has_at(&bytes, 328, &[255, 255, 255, 255, 255, 255, 255, 255]),
+        has_at(&bytes, 540, b"ARROW1"),
+    ];
+    assert_eq!(rt; first_false(&seen), None);
 }
 
 // A folder is no plain file, and no file is made in a folder that isn't there.
 #[test]
-#[tactic(auto, unfolding(world::specs::Files::Has))]
-fn folders_for_files(rt: HostRuntime) -> Result<(), Fail> {
-    fs::create_dir(&rt, "folder")?;
-    let mut folder = StdFolder::new(&rt);
-    for (name, plan) in [
-        ("rows.plan", PLAN.as_slice()),
-        ("named.plan", NAMED_PLAN.as_slice()),
-    ] {
-        folder.create(rt.alloc(), name)?;
-        folder.append(rt.alloc(), name, plan)?;
-    }
-    let cases: [(&str, &str, &str, u8); 5] = [
-        ("folder", "out.arrow", "t=f", 7),
-        ("named.plan", "out.arrow", "t=folder", 7),
-        ("named.plan", "out.arrow", "t=no.arrow", 5),
-        ("rows.plan", "folder", "t=f", 8),
-        ("rows.plan", "no_folder/out.arrow", "t=f", 8),
+fn folders_for_files(rt: HostRuntime) {
+    assert!(rt; fs::create_dir(&rt, "folder").is_ok());
+    assert!(rt; puts(&rt, "rows.plan", &PLAN));
+    assert!(rt; puts(&rt, "named.plan", &NAMED_PLAN));
+    let cases: [(&[&str], u8); 5] = [
+        (&["run", "folder", "out.arrow", "1", "t=f"], 7),
+        (&["run", "named.plan", "out.arrow", "1", "t=folder"], 7),
+        (&["run", "named.plan", "out.arrow", "1", "t=no.arrow"], 5),
+        (&["run", "rows.plan", "folder", "1", "t=f"], 8),
+        (&["run", "rows.plan", "no_folder/out.arrow", "1", "t=f"], 8),
     ];
-    for (plan, out, binding, number) in cases {
-        assert_eq!(rt;
-            number_after(&rt, &["run", plan, out, "1", binding])?,
-            number
-        );
+    for (words, number) in cases {
+        assert_eq!(rt; number_after(&rt, words), Some(number));
     }
-    assert!(rt; folder.reader(rt.alloc(), "out.arrow")?.is_none());
-    Ok(())
+    assert!(rt; fs::read(&rt, "out.arrow").is_err());
 }

@@ -9,7 +9,7 @@ use Rattle.open_blocks.specs.Files.{FilesSeen, files_seen}
 use Rattle.open_blocks.specs.Taken.{Adds}
 use Rattle.pipe_flows.specs.Inputs.{reads_seen, IsOpenFor}
 use Rattle.pipe_flows.specs.Receipts.{IsReceiptAt}
-use Rattle.table_engine.specs.Stands.{HasRunPipe}
+use Rattle.pipe_runs.specs.Stands.{HasRunPipe}
 use Rattle.pipe_flows.specs.Bodies.{reads_made, HaveReadInTurn}
 use Rattle.table_engine.proofs.BodyLaws.{HaveReadSo, all_read, reads_begin, reads_go_on}
 use Rattle.table_engine.proofs.ErrorLaws.{error_same}

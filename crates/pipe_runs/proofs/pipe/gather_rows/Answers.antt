@@ -4,8 +4,8 @@ use Rattle.pipe_feeds.specs.Kept.{IsInput}
 use Rattle.plan_pipes.specs.RowMeaning.{gathered}
 use Rattle.pipe_flows.proofs.FlowLaws.{parts_as}
 use Rattle.pipe_feeds.proofs.KeptLaws.{typed_more, streams_more}
-use Rattle.table_engine.proofs.GatherLaws.{input_as}
-use Rattle.table_engine.proofs.pipe.gather_rows.Goals as goal
+use Rattle.pipe_runs.proofs.GatherLaws.{input_as}
+use Rattle.pipe_runs.proofs.pipe.gather_rows.Goals as goal
 
 pub returns-clause-typed : goal.returns-clause-typed
 returns-clause-typed c =

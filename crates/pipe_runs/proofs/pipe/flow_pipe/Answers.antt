@@ -6,8 +6,8 @@ use Rattle.pipe_types.specs.Over.{AreStepsOver, IsBreakerOver}
 use Rattle.pipe_steps.specs.Tables.{joins_of}
 use Rattle.open_blocks.specs.Files.{files_seen}
 use Rattle.pipe_flows.specs.Inputs.{columns_of, reads_seen}
-use Rattle.table_engine.specs.Stands.{FlowsFrom, types_in}
-use Rattle.table_engine.proofs.pipe.flow_pipe.Goals as goal
+use Rattle.pipe_runs.specs.Stands.{FlowsFrom, types_in}
+use Rattle.pipe_runs.proofs.pipe.flow_pipe.Goals as goal
 
 pub flow_feed-requires-clause-feed : goal.flow_feed-requires-clause-feed
 flow_feed-requires-clause-feed g c κs within = c.requires.over.feed

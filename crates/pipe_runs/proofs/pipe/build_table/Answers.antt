@@ -6,8 +6,8 @@ use Rattle.pipe_feeds.specs.Kept.{IsInput}
 use Rattle.set_rels.specs.Inputs.{stream_of}
 use Rattle.pipe_feeds.proofs.KeptLaws.{typed_more, streams_more}
 use Rattle.pipe_flows.proofs.FlowLaws.{parts_as}
-use Rattle.table_engine.proofs.GatherLaws.{input_as, tables_more}
-use Rattle.table_engine.proofs.pipe.build_table.Goals as goal
+use Rattle.pipe_runs.proofs.GatherLaws.{input_as, tables_more}
+use Rattle.pipe_runs.proofs.pipe.build_table.Goals as goal
 
 pub returns-clause-typed : goal.returns-clause-typed
 returns-clause-typed c =

@@ -19,7 +19,7 @@ use Rattle.open_blocks.specs.Files.{FilesSeen}
 use Rattle.pipe_feeds.specs.Kept.{AreStreams}
 use Rattle.pipe_feeds.specs.declared.stores.Stores.{Stores}
 use Rattle.pipe_flows.specs.Inputs.{Part, ArePartsOf, told_by}
-use Rattle.table_engine.specs.Stands.{FlowsFrom}
+use Rattle.pipe_runs.specs.Stands.{FlowsFrom}
 
 module _ (files : List FilesSeen) (reads : List ReadRel) (feed : Feed) (steps : List Step) (breaker : Breaker) (stores : Stores) (stored : List Ty) (parts : List Part) where
   -- these are parts of rows by another name

@@ -1,8 +1,8 @@
 use Rattle.std.proofs.Common.{map}
 use Rattle.open_blocks.specs.Files.{files_seen}
 use Rattle.pipe_flows.specs.Inputs.{columns_of, reads_seen}
-use Rattle.table_engine.proofs.PipeLaws.{breaker_on, mid_typed, ran_pipe, types_after}
-use Rattle.table_engine.proofs.pipe.run_pipe.Goals as goal
+use Rattle.pipe_runs.proofs.PipeLaws.{breaker_on, mid_typed, ran_pipe, types_after}
+use Rattle.pipe_runs.proofs.pipe.run_pipe.Goals as goal
 
 pub close_pipe-requires-clause-over : goal.close_pipe-requires-clause-over
 close_pipe-requires-clause-over g c =

@@ -17,7 +17,7 @@ use Rattle.pipe_flows.specs.Inputs.{Part, ArePartsOf}
 use Rattle.pipe_feeds.specs.Kept.{AreStreams, AreTypedAs, IsInput, IsLeft}
 use Rattle.cut_laws.specs.Found.{ReadRel}
 use Rattle.open_blocks.specs.Files.{FilesSeen}
-use Rattle.table_engine.specs.Stands.{FlowsFrom, HasRunPipe, IsPipeOn, StandsFor, types_in}
+use Rattle.pipe_runs.specs.Stands.{FlowsFrom, HasRunPipe, IsPipeOn, StandsFor, types_in}
 use Rattle.pipe_feeds.specs.declared.stores.Stores.{Stores}
 use Rattle.pipe_feeds.proofs.KeptLaws.{kept_left}
 

@@ -21,7 +21,7 @@ ghost use Rattle.pipe_feeds.specs.Kept.{AreTypedAs, AreStreams, IsLeft};
 ghost use Rattle.pipe_flows.specs.Bodies.{HaveReadInTurn, reads_made};
 ghost use Rattle.pipe_flows.specs.Inputs.{ArePartsOf, HaveParts, columns_of, reads_seen, IsOpenFor};
 ghost use Rattle.pipe_flows.specs.Receipts.{IsReceiptAt};
-ghost use Rattle.table_engine.specs.Stands as spec;
+ghost use Rattle.pipe_runs.specs.Stands as spec;
 
 use open_blocks::ReadFiles;
 use pipe_feeds::{Stores, build, ended_alone, gather, types_gathered};
@@ -39,7 +39,7 @@ use world::{FolderError, Gate, Reader};
 
 /// Runs a pipeline behind those that ran: what it gathers stands behind what they did, and so does the table that it builds, if it builds
 /// one. Where a read relation feeds it, its receipt is added.
-pub(crate) fn run_pipe<H: Threads + Wait + Sync, R: Reader + Send, G: Gate>(
+pub fn run_pipe<H: Threads + Wait + Sync, R: Reader + Send, G: Gate>(
     crew: &Crew<'_, H, G>,
     alloc: Global,
     pipe: Pipe,

@@ -15,9 +15,9 @@ use Rattle.pipe_feeds.proofs.KeptLaws.{left_same}
 use Rattle.pipe_flows.specs.Bodies.{reads_made, HaveReadInTurn}
 use Rattle.pipe_flows.specs.Inputs.{columns_of, reads_seen}
 use Rattle.pipe_flows.specs.Receipts.{IsReceiptAt}
-use Rattle.table_engine.specs.Stands.{types_in}
-use Rattle.table_engine.proofs.FeedLaws.{read_flows, set_flows, stored_flows}
-use Rattle.table_engine.proofs.pipe.flow_feed.Goals as goal
+use Rattle.pipe_runs.specs.Stands.{types_in}
+use Rattle.pipe_runs.proofs.FeedLaws.{read_flows, set_flows, stored_flows}
+use Rattle.pipe_runs.proofs.pipe.flow_feed.Goals as goal
 
 pub flow_read-requires-clause-over : goal.flow_read-requires-clause-over
 flow_read-requires-clause-over g c κs within =

@@ -1,0 +1,3 @@
+mod FeedLaws
+mod GatherLaws
+mod PipeLaws
