@@ -147,6 +147,9 @@ module _ (implied given : List Ty) (all : AreAll implied given) where
   pub condition_implied : (expr : Expr) → IsConditionOver given expr → IsConditionOver implied expr
   condition_implied expr condition = (typed_implied expr condition.0, condition.1)
 
+  pub conditions_implied : (exprs : List Expr) → AllByRecursion (IsConditionOver given) exprs → AllByRecursion (IsConditionOver implied) exprs
+  conditions_implied exprs conditions = weakened (IsConditionOver given) (IsConditionOver implied) exprs conditions condition_implied
+
   maybe_implied : (P Q : Expr → Type 0) (maybe : Option Expr) → ((one : Expr) → P one → Q one) → MayBe P maybe → MayBe Q maybe
   maybe_implied P Q None k holds = tt
   maybe_implied P Q (Some expr) k holds = k expr holds

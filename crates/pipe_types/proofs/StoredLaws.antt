@@ -9,7 +9,7 @@ use Rattle.plan_typed.specs.declared.rel.SetOp.{SetOp}
 use Rattle.plan_typed.specs.Types.{ty_of}
 use Rattle.well_typed.proofs.MadeRel.{all_same, all_length, all_at, all_append}
 use Rattle.well_typed.specs.Columns.{columns_at, join_columns, are_of_kinds, is_nullable_in, is_nullable_at}
-use Rattle.well_typed.specs.WellTyped.{AreAll, AreBelow, AreInputs, set_columns_of}
+use Rattle.well_typed.specs.WellTyped.{IsConditionOver, AreAll, AreBelow, AreInputs, set_columns_of}
 use Rattle.rel_specs.specs.declared.join.JoinSpec.{JoinSpec}
 use Rattle.rel_specs.specs.declared.key_order.KeyOrder.{KeyOrder}
 use Rattle.join_columns.specs.Sides.{kinds_of}
@@ -25,7 +25,7 @@ use Rattle.plan_pipes.specs.TypeMeaning.{Typing, JoinTyping, IsProbe, HaveTypes,
 use Rattle.cut_laws.proofs.TypeLaws.{each_typed}
 use Rattle.pipe_types.specs.Exact.{probed_types, gathered_types, exact_steps, exact_over}
 use Rattle.pipe_types.specs.Over.{IsProbeOver, IsStepOver, AreStepsOver, IsBreakerOver, AreAllEach, IsFeedOver, IsPipeOver, stored}
-use Rattle.pipe_types.proofs.ImpliedLaws.{all_next, all_kinds, all_joined, exprs_implied, condition_implied, measures_implied, set_measures_implied}
+use Rattle.pipe_types.proofs.ImpliedLaws.{all_next, all_kinds, all_joined, exprs_implied, condition_implied, conditions_implied, measures_implied, set_measures_implied}
 
 -- the types that a stream has are as those that are stored imply
 abbrev pub Implies : Typing → List Ty → Type 0
@@ -34,7 +34,7 @@ Implies typing types = (given : List Ty) → typing given → AreAll types given
 -- a table is of this join
 abbrev IsTableOf : JoinTyping → Option JoinSpec → Type 0
 IsTableOf table None = (left given : List Ty) → table left given → ⊥
-IsTableOf table (Some join) = (left given : List Ty) → table left given → (left ≡ join.left.items) × (given ≡ join_columns join.kind join.left.items join.right.items)
+IsTableOf table (Some join) = (left given : List Ty) → table left given → (left ≡ join.left.items) × (given ≡ join_columns join.kind join.left.items join.right.items) × AllByRecursion (IsConditionOver (join.left.items ++ join.right.items)) join.rest.items
 
 -- each of them, in order
 abbrev EachImplies : List Typing → List (List Ty) → Type 0
@@ -97,7 +97,11 @@ probe_implied table (Some join) of typing types implies given is =
 
 probe_over : (table : JoinTyping) (join : Option JoinSpec) → IsTableOf table join → (typing : Typing) (types : List Ty) → Implies typing types → (given : List Ty) → IsProbe table typing given → IsProbeOver join types
 probe_over table None of typing types implies given is = of is.types given is.join
-probe_over table (Some join) of typing types implies given is = all_kinds types is.types (implies is.types is.input) ∙ ap kinds_of (of is.types given is.join).0
+probe_over table (Some join) of typing types implies given is =
+    let known = of is.types given is.join in
+    let right = join.right.items in
+    let left = subst (AreAll types) known.0 (implies is.types is.input) in
+    (all_kinds types join.left.items left, conditions_implied (types ++ right) (join.left.items ++ right) (all_append types join.left.items right right left (all_same right)) join.rest.items known.2)
 
 -- as many columns, so the places are of these too
 below_implied : (types given : List Ty) (places : List ℕ) → AreAll types given → AreBelow (length given) places → AreBelow (length types) places
@@ -254,7 +258,7 @@ module _ (columns : ℕ → List Ty) where
   built_of (breakers.Fetch offset count) typing types = tt
   built_of (breakers.Aggregate spec) typing types = tt
   built_of (breakers.Sort keys) typing types = tt
-  built_of (breakers.Build spec) typing types = (λ left given is. (is.left_rows, is.is), tt)
+  built_of (breakers.Build spec) typing types = (λ left given is. (is.left_rows, is.is, is.rest), tt)
   built_of (breakers.GroupSets spec) typing types = tt
 
   -- what ran so far

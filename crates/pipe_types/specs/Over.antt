@@ -1,6 +1,6 @@
 -- Pipelines whose parts are well typed over the types that the columns of their batches are stored with: what works a batch may ask
 -- for no more.
-use Rattle.std.specs.Prelude.{◌≡◌, ◌<◌, ℕ, List, [], ◌∷◌, Option, Some, None, map, length, slice_index_or}
+use Rattle.std.specs.Prelude.{◌≡◌, ◌<◌, ℕ, List, [], ◌∷◌, ◌++◌, Option, Some, None, map, length, slice_index_or}
 use Rattle.std.specs.List.{AllByRecursion}
 use Rattle.sub_types.specs.Kind.{IsKind}
 use Rattle.sub_types.specs.declared.kind.Ty.{Ty}
@@ -21,10 +21,11 @@ use Rattle.plan_pipes.specs.RowMeaning.{sets_of}
 use Rattle.plan_pipes.specs.Run.{Past, run, stream_at, stepped, fed, flow}
 use Rattle.pipe_types.specs.Exact.{exact_steps, exact_over}
 
--- left rows that are stored with these types may be joined with a table of this join
+-- left rows that are stored with these types may be joined with a table of this join: they are of its left kinds, and the rest of its
+-- condition is well typed over them beside the right columns
 abbrev pub IsProbeOver : Option JoinSpec → List Ty → Type 0
 IsProbeOver None given = ⊥
-IsProbeOver (Some join) given = kinds_of given ≡ kinds_of join.left.items
+IsProbeOver (Some join) given = (kinds_of given ≡ kinds_of join.left.items) × AllByRecursion (IsConditionOver (given ++ join.right.items)) join.rest.items
 
 -- a step, over the joins that the tables are built for
 abbrev pub IsStepOver : List (Option JoinSpec) → List Ty → Step → Type 0

@@ -5,7 +5,7 @@ use Rattle.pipe_types.specs.Over.{IsStepOver}
 use Rattle.pipe_steps.specs.Ready.{IsReady}
 use Rattle.pipe_steps.specs.Tables.{joins_of}
 use Rattle.pipe_steps.proofs.ArmLaws.{filter_given, project_given, keep_given, probe_given}
-use Rattle.pipe_steps.proofs.JoinedLaws.{probe_over}
+use Rattle.pipe_steps.proofs.JoinedLaws.{probe_over, rest_over}
 use Rattle.pipe_steps.proofs.stepping.step_over.Goals as goal
 
 pub returns-in-Filter-clause-fit : goal.returns-in-Filter-clause-fit
@@ -24,6 +24,12 @@ returns-in-Keep-clause-fit c =
     let P : Step → Type 0 = λ step. IsReady (step ∷ []) c.args.piece.batch in
     let over = subst (IsStepOver (joins_of c.args.tables.now) (types_of c.args.piece.batch)) c.in-Keep.is c.requires.over in
     keep_given c.in-Keep.columns c.as_slice-in-Keep.result.now c.as_slice-in-Keep.ensures c.args.piece c.keep.result over c.keep.ensures.types c.keep.ensures.stream (subst P c.in-Keep.is c.requires.ready)
+
+pub probe-requires-clause-typed : goal.probe-requires-clause-typed
+probe-requires-clause-typed c =
+    let given = types_of c.args.piece.batch in
+    let over = subst (IsStepOver (joins_of c.args.tables.now) given) c.in-Probe.is c.requires.over in
+    rest_over c.args.tables.now c.in-Probe.built c.index-tables-built.result given c.index-tables-built.is over
 
 pub returns-in-Probe-clause-fit : goal.returns-in-Probe-clause-fit
 returns-in-Probe-clause-fit c =
