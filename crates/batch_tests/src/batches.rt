@@ -60,14 +60,22 @@ fn push_number(builder: &mut ColumnBuilder, number: Option<i64>) -> Result<(), N
     }
 }
 
+fn push_numbers(builder: &mut ColumnBuilder, list: &[Option<i64>]) -> Result<(), NoMemory>
+    requires { builder.old.ty ≡ NUMBER }
+    ensures { builder.new.ty ≡ builder.old.ty }
+{
+    for number in list {
+        push_number(builder, *number)?;
+    }
+    Ok(())
+}
+
 // A batch of one column of these numbers. Its number is 7.
 fn numbers(alloc: Global, list: &[Option<i64>]) -> Result<Batch, NoMemory>
     ensures { IfOk result (λ batch. types_of batch ≡ NUMBER ∷ []) }
 {
     let mut builder = ColumnBuilder::new(alloc, NUMBER);
-    for number in list {
-        push_number(&mut builder, *number)?;
-    }
+    push_numbers(&mut builder, list)?;
     batch_of(alloc, 7, builder.finish())
 }
 

@@ -72,10 +72,18 @@ fn gathers(alloc: Global, view: &View<'_, i64>, at: &[u64], list: &[Option<i64>]
 // Both with -1 between them.
 fn joined(alloc: Global, a: &View<'_, i64>, b: &View<'_, i64>) -> Result<Fixed<i64>, NoMemory> {
     let mut builder = FixedBuilder::new(alloc);
+    append_both(&mut builder, a, b)?;
+    Ok(builder.finish())
+}
+
+fn append_both(
+    builder: &mut FixedBuilder<i64>,
+    a: &View<'_, i64>,
+    b: &View<'_, i64>,
+) -> Result<(), NoMemory> {
     builder.append(a)?;
     builder.push(Some(-1))?;
-    builder.append(b)?;
-    Ok(builder.finish())
+    builder.append(b)
 }
 
 fn joins(alloc: Global, a: &View<'_, i64>, b: &View<'_, i64>, list: &[Option<i64>]) -> bool {
@@ -93,12 +101,8 @@ fn past_one_and_two_words_of_bits(rt: HostRuntime) {
     }
 }
 
-#[test]
-fn part_gather_and_append(rt: HostRuntime) {
-    let alloc = rt.alloc();
-    let column = numbered(alloc, 130);
-    let part = part_of(&column.view(), 61, 70);
-    let inner = part_of(&part, 1, 6);
+// Whether the part from 62 to 67 is read, gathered, and put behind two of it.
+fn is_inner(alloc: Global, inner: &View<'_, i64>) -> [bool; 4] {
     let five = [None, Some(63), Some(64), None, Some(66)];
     let picked = [Some(66), None, Some(64), Some(66)];
     let both = [
@@ -111,19 +115,32 @@ fn part_gather_and_append(rt: HostRuntime) {
         None,
         Some(66),
     ];
-    let seen = [
-        are(&inner, &five),
+    [
+        are(inner, &five),
         inner.values() == [0, 63, 64, 0, 66].as_slice(),
-        gathers(alloc, &inner, &[4, 0, 2, 4], &picked),
-        joins(alloc, &part_of(&inner, 1, 3), &inner, &both),
-        joins(
-            alloc,
-            &part_of(&part, 9, 9),
-            &part_of(&part, 0, 0),
-            &[Some(-1)],
-        ),
-    ];
+        gathers(alloc, inner, &[4, 0, 2, 4], &picked),
+        joins(alloc, &part_of(inner, 1, 3), inner, &both),
+    ]
+}
+
+// Whether two parts of no values are joined.
+fn joins_none(alloc: Global, part: &View<'_, i64>) -> bool {
+    joins(
+        alloc,
+        &part_of(part, 9, 9),
+        &part_of(part, 0, 0),
+        &[Some(-1)],
+    )
+}
+
+#[test]
+fn part_gather_and_append(rt: HostRuntime) {
+    let alloc = rt.alloc();
+    let column = numbered(alloc, 130);
+    let part = part_of(&column.view(), 61, 70);
+    let seen = is_inner(alloc, &part_of(&part, 1, 6));
     assert_eq!(rt; first_false(&seen), None);
+    assert!(rt; joins_none(alloc, &part));
 }
 
 // The values 10, 1000 and -1, of which only the second is there.

@@ -25,7 +25,38 @@ fn value_of(alloc: Global, kind: Kind, row: usize) -> Result<Value, NoMemory>
     }
 }
 
-// A column in which none, a third or all of the rows are null, as `nulls` is 0, 1 or 3.
+// A row of a column in which none, a third or all of the rows are null, as `nulls` is 0, 1 or 3.
+fn push_row(
+    alloc: Global,
+    builder: &mut ColumnBuilder,
+    kind: Kind,
+    nulls: usize,
+    row: usize,
+) -> Result<(), NoMemory>
+    requires { builder.old.ty.kind ≡ kind }
+    ensures { builder.new.ty ≡ builder.old.ty }
+{
+    if row % 3 < nulls {
+        return builder.push(&Value::Null);
+    }
+    let value = value_of(alloc, kind, row)?;
+    builder.push(&value)
+}
+
+fn push_rows(
+    alloc: Global,
+    builder: &mut ColumnBuilder,
+    kind: Kind,
+    nulls: usize,
+) -> Result<(), NoMemory>
+    requires { builder.old.ty.kind ≡ kind }
+{
+    for row in 0..ROWS {
+        push_row(alloc, builder, kind, nulls, row)?;
+    }
+    Ok(())
+}
+
 fn column(alloc: Global, kind: Kind, nulls: usize) -> Result<Column, NoMemory>
     requires { IsKind kind }
 {
@@ -34,13 +65,7 @@ fn column(alloc: Global, kind: Kind, nulls: usize) -> Result<Column, NoMemory>
         nullable: true,
     };
     let mut builder = ColumnBuilder::with_capacity(alloc, ty, ROWS)?;
-    for row in 0..ROWS {
-        if row % 3 < nulls {
-            builder.push(&Value::Null)?;
-        } else {
-            builder.push(&value_of(alloc, kind, row)?)?;
-        }
-    }
+    push_rows(alloc, &mut builder, kind, nulls)?;
     Ok(builder.finish())
 }
 
@@ -103,42 +128,75 @@ fn places(alloc: Global, len: usize) -> Result<Vec<u64>, NoMemory> {
 // Whether a gather gives the values at the places.
 fn gathers(alloc: Global, part: &ColumnView<'_>) -> Result<bool, NoMemory> {
     let at = places(alloc, part.values.len())?;
-    if !are_below(&at, part.values.len() as u64) {
+    gathers_at(alloc, part, &at)
+}
+
+fn gathers_at(alloc: Global, part: &ColumnView<'_>, at: &[u64]) -> Result<bool, NoMemory> {
+    if !are_below(at, part.values.len() as u64) {
         return Ok(false);
     }
-    let gathered = part.gather(alloc, &at)?;
+    let gathered = part.gather(alloc, at)?;
+    Ok(are_gathered(alloc, &gathered.values.view(), &part.values, at))
+}
+
+fn are_gathered(alloc: Global, gathered: &DataView<'_>, part: &DataView<'_>, at: &[u64]) -> bool {
     for (i, place) in at.iter().enumerate() {
-        if !has(
-            alloc,
-            &gathered.values.view(),
-            i,
-            &part.values,
-            *place as usize,
-        ) {
-            return Ok(false);
+        if !has(alloc, gathered, i, part, *place as usize) {
+            return false;
         }
     }
-    Ok(true)
+    true
 }
 
 // Whether the part is there twice where it is added twice.
 fn doubles(alloc: Global, part: &ColumnView<'_>) -> Result<bool, NoMemory> {
-    let len = part.values.len();
+    let twice = doubled(alloc, part)?;
+    Ok(are_twice(alloc, &twice.values.view(), &part.values))
+}
+
+fn doubled(alloc: Global, part: &ColumnView<'_>) -> Result<Column, NoMemory> {
     let mut builder = ColumnBuilder::new(alloc, part.ty);
+    extend_twice(&mut builder, part)?;
+    Ok(builder.finish())
+}
+
+fn extend_twice(builder: &mut ColumnBuilder, part: &ColumnView<'_>) -> Result<(), NoMemory>
+    requires { part.now.ty.kind ≡ builder.old.ty.kind }
+{
     builder.extend(part)?;
-    builder.extend(part)?;
-    let twice = builder.finish();
+    builder.extend(part)
+}
+
+// Whether the values of a part stand here at the places from 0 and again from the part's length on.
+fn are_twice(alloc: Global, twice: &DataView<'_>, part: &DataView<'_>) -> bool {
+    let len = part.len();
     for i in 0..len {
-        if !has(alloc, &twice.values.view(), i, &part.values, i) {
-            return Ok(false);
+        if !(has(alloc, twice, i, part, i) && has(alloc, twice, len.saturating_add(i), part, i)) {
+            return false;
         }
-        if !has(
-            alloc,
-            &twice.values.view(),
-            len.saturating_add(i),
-            &part.values,
-            i,
-        ) {
+    }
+    true
+}
+
+// Whether the part is as it is to be.
+fn is_part(
+    alloc: Global,
+    part: &ColumnView<'_>,
+    whole: &ColumnView<'_>,
+    from: usize,
+) -> Result<bool, NoMemory> {
+    if !begins_at(alloc, part, whole, from) {
+        return Ok(false);
+    }
+    if !gathers(alloc, part)? {
+        return Ok(false);
+    }
+    doubles(alloc, part)
+}
+
+fn are_parts(alloc: Global, whole: &ColumnView<'_>) -> Result<bool, NoMemory> {
+    for from in 0..10 {
+        if !is_part(alloc, &part_of(whole, from, ROWS - from), whole, from)? {
             return Ok(false);
         }
     }
@@ -150,17 +208,7 @@ fn has_parts(alloc: Global, kind: Kind, nulls: usize) -> Result<bool, NoMemory>
     requires { IsKind kind }
 {
     let column = column(alloc, kind, nulls)?;
-    let whole = column.view();
-    for from in 0..10 {
-        let part = part_of(&whole, from, ROWS - from);
-        if !begins_at(alloc, &part, &whole, from) {
-            return Ok(false);
-        }
-        if !gathers(alloc, &part)? || !doubles(alloc, &part)? {
-            return Ok(false);
-        }
-    }
-    Ok(true)
+    are_parts(alloc, &column.view())
 }
 
 #[test]

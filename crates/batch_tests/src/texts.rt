@@ -118,10 +118,18 @@ fn grows(alloc: Global, list: &[Option<&[u8]>]) -> bool {
 // Both with an exclamation mark between them.
 fn joined(alloc: Global, a: &TextView<'_>, b: &TextView<'_>) -> Result<TextCol, NoMemory> {
     let mut builder = TextBuilder::new(alloc);
+    append_both(&mut builder, a, b)?;
+    Ok(builder.finish())
+}
+
+fn append_both(
+    builder: &mut TextBuilder,
+    a: &TextView<'_>,
+    b: &TextView<'_>,
+) -> Result<(), NoMemory> {
     builder.append(a)?;
     builder.push(Some(b"!"))?;
-    builder.append(b)?;
-    Ok(builder.finish())
+    builder.append(b)
 }
 
 // Whether the texts of both have these bytes, and begin and end at these places.
@@ -146,47 +154,57 @@ fn past_one_and_two_words_of_bits(rt: HostRuntime) {
     }
 }
 
+const ONE: Option<&[u8]> = Some(b"one");
+
+const THREE: Option<&[u8]> = Some(b"three");
+
+const EMPTY: Option<&[u8]> = Some(b"");
+
+const LIST: [Option<&[u8]>; 5] = [ONE, None, THREE, EMPTY, Some(b"\xff\xff")];
+
+// Whether a null, a text and no bytes are read, gathered, and put before the end of the column.
+fn is_part(alloc: Global, part: &TextView<'_>, end: &TextView<'_>) -> bool {
+    are(part, &[None, THREE, EMPTY])
+        && has_buffers(part, b"three", &[0, 0, 5, 5])
+        && gathers(alloc, part, &[1, 0, 1], &[THREE, None, THREE])
+        && joins(alloc, part, end, b"three!\xff\xff", &[0, 0, 5, 5, 6, 8])
+}
+
+fn has_part(alloc: Global, whole: &TextView<'_>) -> bool {
+    let part = part_of(&part_of(whole, 1, 5), 0, 3);
+    is_part(alloc, &part, &part_of(whole, 4, 5))
+}
+
 #[test]
 fn part_gather_and_append(rt: HostRuntime) {
     let alloc = rt.alloc();
-    let three = Some(b"three".as_slice());
-    let empty = Some(b"".as_slice());
-    let last = Some(b"\xff\xff".as_slice());
-    let list = [Some(b"one".as_slice()), None, three, empty, last];
-    let column = column_of(alloc, &list);
+    let column = column_of(alloc, &LIST);
     let whole = column.view();
-    let part = part_of(&part_of(&whole, 1, 5), 0, 3);
-    let end = part_of(&whole, 4, 5);
     let seen = [
-        are(&whole, &list),
+        are(&whole, &LIST),
         has_buffers(&whole, b"onethree\xff\xff", &[0, 3, 3, 8, 8, 10]),
-        are(&part, &[None, three, empty]),
-        has_buffers(&part, b"three", &[0, 0, 5, 5]),
-        gathers(alloc, &part, &[1, 0, 1], &[three, None, three]),
-        joins(alloc, &part, &end, b"three!\xff\xff", &[0, 0, 5, 5, 6, 8]),
+        has_part(alloc, &whole),
     ];
     assert_eq!(rt; first_false(&seen), None);
+}
+
+// Whether of a text, a null and no bytes these are gathered, also from the last two alone.
+fn gathers_with_nulls(alloc: Global, view: &TextView<'_>) -> bool {
+    let part = part_of(view, 1, 3);
+    gathers_or_null(alloc, view, &[2, 3, 0, 1], &[EMPTY, None, ONE, None])
+        && gathers_or_null(alloc, view, &[0, 0], &[ONE, ONE])
+        && gathers_or_null(alloc, &part, &[1, 2, u64::MAX], &[EMPTY, None, None])
 }
 
 #[test]
 fn no_place_one_value_and_room(rt: HostRuntime) {
     let alloc = rt.alloc();
-    let one = Some(b"one".as_slice());
-    let empty = Some(b"".as_slice());
-    let column = column_of(alloc, &[one, None, empty]);
-    let part = part_of(&column.view(), 1, 3);
+    let column = column_of(alloc, &[ONE, None, EMPTY]);
     let seen = [
-        gathers_or_null(
-            alloc,
-            &column.view(),
-            &[2, 3, 0, 1],
-            &[empty, None, one, None],
-        ),
-        gathers_or_null(alloc, &column.view(), &[0, 0], &[one, one]),
-        gathers_or_null(alloc, &part, &[1, 2, u64::MAX], &[empty, None, None]),
-        repeats(alloc, one, &[one, one, one]),
+        gathers_with_nulls(alloc, &column.view()),
+        repeats(alloc, ONE, &[ONE, ONE, ONE]),
         repeats(alloc, None, &[None, None]),
-        grows(alloc, &[one, None, one, empty]),
+        grows(alloc, &[ONE, None, ONE, EMPTY]),
     ];
     assert_eq!(rt; first_false(&seen), None);
 }

@@ -65,10 +65,18 @@ fn gathers(alloc: Global, view: &BoolView<'_>, at: &[u64], list: &[Option<bool>]
 // Both with a null between them.
 fn joined(alloc: Global, a: &BoolView<'_>, b: &BoolView<'_>) -> Result<BoolCol, NoMemory> {
     let mut builder = BoolBuilder::new(alloc);
+    append_both(&mut builder, a, b)?;
+    Ok(builder.finish())
+}
+
+fn append_both(
+    builder: &mut BoolBuilder,
+    a: &BoolView<'_>,
+    b: &BoolView<'_>,
+) -> Result<(), NoMemory> {
     builder.append(a)?;
     builder.push(None)?;
-    builder.append(b)?;
-    Ok(builder.finish())
+    builder.append(b)
 }
 
 fn joins(alloc: Global, a: &BoolView<'_>, b: &BoolView<'_>, list: &[Option<bool>]) -> bool {

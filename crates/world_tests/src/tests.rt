@@ -4,4 +4,5 @@ mod calls;
 mod failures;
 mod folders;
 mod notes;
+mod steps;
 mod sure;

@@ -50,25 +50,46 @@ fn gives_back(alloc: Global, folder: &mut SureFolder, reader: Option<SureReader>
     }
 }
 
+// Two files that are put, of which one grows.
+fn grows(alloc: Global, folder: &mut SureFolder) -> bool {
+    lacks(folder, "a")
+        && puts(folder, "a", b"old")
+        && puts(folder, "b", b"stays")
+        && holds(folder, "a", b"old")
+        && appends(alloc, folder, "a", b"er")
+        && holds(folder, "a", b"older")
+}
+
+// One of them is made again, and a third is made.
+fn makes(alloc: Global, folder: &mut SureFolder) -> bool {
+    creates(alloc, folder, "a")
+        && holds(folder, "a", b"")
+        && creates(alloc, folder, "c")
+        && appends(alloc, folder, "c", b"new")
+        && holds(folder, "c", b"new")
+        && holds(folder, "b", b"stays")
+}
+
 #[test]
 fn files_are_made_and_grow(rt: HostRuntime) {
     let alloc = rt.alloc();
     let mut folder = SureFolder::new(alloc);
-    let seen = [
-        lacks(&folder, "a"),
-        puts(&mut folder, "a", b"old"),
-        puts(&mut folder, "b", b"stays"),
-        holds(&folder, "a", b"old"),
-        appends(alloc, &mut folder, "a", b"er"),
-        holds(&folder, "a", b"older"),
-        creates(alloc, &mut folder, "a"),
-        holds(&folder, "a", b""),
-        creates(alloc, &mut folder, "c"),
-        appends(alloc, &mut folder, "c", b"new"),
-        holds(&folder, "c", b"new"),
-        holds(&folder, "b", b"stays"),
-    ];
+    let seen = [grows(alloc, &mut folder), makes(alloc, &mut folder)];
     assert_eq!(rt; first_false(&seen), None);
+}
+
+// Whether readers of the file `a` read what it was before it is put once more.
+fn reads_earlier(
+    alloc: Global,
+    folder: &mut SureFolder,
+    reader: &mut Option<SureReader>,
+    other: &mut Option<SureReader>,
+) -> bool {
+    finds_none(alloc, folder, "b")
+        && has_length(reader, 6)
+        && puts(folder, "a", b"later")
+        && reads(alloc, reader, 2, b"cdef")
+        && reads(alloc, other, 0, b"abcd")
 }
 
 #[test]
@@ -80,11 +101,7 @@ fn its_readers_keep_their_bytes(rt: HostRuntime) {
     let mut other = second(alloc, &mut reader);
     let seen = [
         put,
-        finds_none(alloc, &mut folder, "b"),
-        has_length(&mut reader, 6),
-        puts(&mut folder, "a", b"later"),
-        reads(alloc, &mut reader, 2, b"cdef"),
-        reads(alloc, &mut other, 0, b"abcd"),
+        reads_earlier(alloc, &mut folder, &mut reader, &mut other),
         absorbs(alloc, &mut reader, other),
         gives_back(alloc, &mut folder, reader),
         holds(&folder, "a", b"later"),
