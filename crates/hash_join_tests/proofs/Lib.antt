@@ -1,1 +1,3 @@
 mod SpecLaws
+mod TypedLaws
+mod PartLaws

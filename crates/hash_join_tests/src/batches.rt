@@ -1,12 +1,16 @@
 // Batches of two columns of small numbers, some of them null.
-ghost use Rattle.std.specs.Prelude.{◌≡◌, ◌<◌, ◌∷◌, [], IfOk};
+ghost use Rattle.std.specs.Prelude.{◌≡◌, ◌<◌, ◌≤◌, ◌∷◌, [], All, IfOk};
 ghost use Rattle.sub_types.specs.Nullable.{int_value};
-ghost use Rattle.batch.specs.BatchRows.{types_of};
+ghost use Rattle.sub_types.specs.Value.{Fits};
+ghost use Rattle.batch.specs.BatchRows.{rows_of, types_of};
+ghost use Rattle.hash_join_tests.specs.Typed.{numbers};
 
+use crate::conditions::RELATION;
 use crate::random::Random;
 use batch::{Batch, Column, ColumnBuilder};
 use std::alloc::Global;
 use sub_types::{Kind, NoMemory, Ty, Value};
+use table_rows::check_batch;
 
 /// A number, or none for a null.
 pub(crate) type Number = Option<i64>;
@@ -16,9 +20,22 @@ pub(crate) const NUMBER: Ty = Ty {
     nullable: true,
 };
 
+/// The rows of a batch from one to another, up to the first that doesn't fit.
+pub(crate) fn fitting(alloc: Global, batch: &Batch, from: u64, to: u64) -> Result<Batch, NoMemory>
+    requires types { types_of batch.now ≡ numbers }
+    requires rising { from ≤ to }
+    requires within { to ≤ batch.now.rows }
+    ensures types { IfOk result (λ part. types_of part ≡ numbers) }
+    ensures fit { IfOk result (λ part. All (Fits numbers) (rows_of part)) }
+{
+    let rows = batch.slice(alloc, from, to)?;
+    let tested = check_batch(alloc, RELATION, &[NUMBER, NUMBER], rows)?;
+    Ok(tested.batch)
+}
+
 // Up to six rows.
 pub(crate) fn random_batch(alloc: Global, random: &mut Random) -> Result<Batch, NoMemory>
-    ensures { IfOk result (λ batch. types_of batch ≡ NUMBER ∷ NUMBER ∷ []) }
+    ensures { IfOk result (λ batch. types_of batch ≡ numbers) }
 {
     let rows = random.below(7);
     let first = numbers(alloc, random, rows)?;
@@ -52,7 +69,7 @@ fn push_number(builder: &mut ColumnBuilder, number: i64) -> Result<(), NoMemory>
 
 // These rows.
 pub(crate) fn batch_of_rows(alloc: Global, rows: &[[Number; 2]]) -> Result<Batch, NoMemory>
-    ensures { IfOk result (λ batch. types_of batch ≡ NUMBER ∷ NUMBER ∷ []) }
+    ensures { IfOk result (λ batch. types_of batch ≡ numbers) }
 {
     let first = column_of_rows(alloc, rows, 0)?;
     let second = column_of_rows(alloc, rows, 1)?;

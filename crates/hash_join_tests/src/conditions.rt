@@ -1,20 +1,17 @@
 // The conditions of joins: as a whole, and taken apart.
-ghost use Rattle.std.specs.Prelude.{◌≡◌, ◌∷◌, [], IfOk};
+ghost use Rattle.std.specs.Prelude.{◌≡◌, IfOk};
 ghost use Rattle.std.specs.List.{AllByRecursion};
 ghost use Rattle.plan_pipes.specs.TypeMeaning.{IsKeyOver};
-ghost use Rattle.hash_join.specs.Built.{IsJoinable};
+ghost use Rattle.hash_join_tests.specs.Typed.{IsOfNumbers, numbers};
 
 use crate::batches::NUMBER;
+use crate::calls::{TRUTH, call, column};
+use crate::rests::{Rest, rest_of};
 use plan_leaves::Items;
 use plan_typed::{Expr, Func, JoinKind, Overflow};
 use rel_specs::JoinSpec;
 use std::alloc::Global;
-use sub_types::{Kind, NoMemory, Ty, Value};
-
-const TRUTH: Ty = Ty {
-    kind: Kind::Bool,
-    nullable: true,
-};
+use sub_types::{NoMemory, Ty, Value};
 
 /// The number of the join's relation.
 pub(crate) const RELATION: u32 = 7;
@@ -26,18 +23,6 @@ pub(crate) struct Condition {
     pub(crate) rest: Rest,
 }
 
-/// The rest of a condition over the second columns of both sides.
-#[derive(Clone, Copy)]
-pub(crate) enum Rest {
-    None,
-    /// The left one is less than the right one.
-    Less,
-    /// The left one divided by the right one is above 0, which faults at 0.
-    Quotient,
-    /// The left one divided by the right one is less than 5.
-    BelowFive,
-}
-
 // The whole condition, of which there is one.
 pub(crate) fn whole(alloc: Global, condition: Condition) -> Result<Expr, NoMemory> {
     let mut parts = Items::new(alloc);
@@ -47,7 +32,7 @@ pub(crate) fn whole(alloc: Global, condition: Condition) -> Result<Expr, NoMemor
     for part in rest_of(alloc, condition.rest)? {
         parts.push(part)?;
     }
-    parts.push(constant(true))?;
+    parts.push(truth(true))?;
     Ok(Expr::Call {
         func: Func::And,
         mode: Overflow::Error,
@@ -62,9 +47,7 @@ pub(crate) fn spec_of(
     kind: JoinKind,
     condition: Condition,
 ) -> Result<JoinSpec, NoMemory>
-    ensures joinable { IfOk result (λ spec. IsJoinable spec) }
-    ensures left { IfOk result (λ spec. spec.left.items ≡ NUMBER ∷ NUMBER ∷ []) }
-    ensures right { IfOk result (λ spec. spec.right.items ≡ NUMBER ∷ NUMBER ∷ []) }
+    ensures { IfOk result (λ spec. IsOfNumbers spec) }
 {
     let keys = keys_of(alloc, condition.keyed)?;
     let rest = rest_of(alloc, condition.rest)?;
@@ -81,7 +64,7 @@ pub(crate) fn spec_of(
 }
 
 fn types(alloc: Global) -> Result<Vec<Ty>, NoMemory>
-    ensures { IfOk result (λ types. types.items ≡ NUMBER ∷ NUMBER ∷ []) }
+    ensures { IfOk result (λ types. types.items ≡ numbers) }
 {
     let mut types = Vec::new(alloc);
     types.push(NUMBER)?;
@@ -90,13 +73,13 @@ fn types(alloc: Global) -> Result<Vec<Ty>, NoMemory>
 }
 
 fn keys_of(alloc: Global, keyed: bool) -> Result<Vec<(u32, u32)>, NoMemory>
-    ensures { IfOk result (λ keys. AllByRecursion (IsKeyOver (NUMBER ∷ NUMBER ∷ []) (NUMBER ∷ NUMBER ∷ [])) keys.items) }
+    ensures { IfOk result (λ keys. AllByRecursion (IsKeyOver numbers numbers) keys.items) }
 {
     if keyed { one_key(alloc) } else { no_key(alloc) }
 }
 
 fn one_key(alloc: Global) -> Result<Vec<(u32, u32)>, NoMemory>
-    ensures { IfOk result (λ keys. AllByRecursion (IsKeyOver (NUMBER ∷ NUMBER ∷ []) (NUMBER ∷ NUMBER ∷ [])) keys.items) }
+    ensures { IfOk result (λ keys. AllByRecursion (IsKeyOver numbers numbers) keys.items) }
 {
     let mut keys = Vec::new(alloc);
     keys.push((0, 0))?;
@@ -104,54 +87,14 @@ fn one_key(alloc: Global) -> Result<Vec<(u32, u32)>, NoMemory>
 }
 
 fn no_key(alloc: Global) -> Result<Vec<(u32, u32)>, NoMemory>
-    ensures { IfOk result (λ keys. AllByRecursion (IsKeyOver (NUMBER ∷ NUMBER ∷ []) (NUMBER ∷ NUMBER ∷ [])) keys.items) }
+    ensures { IfOk result (λ keys. AllByRecursion (IsKeyOver numbers numbers) keys.items) }
 {
     Ok(Vec::new(alloc))
 }
 
-fn rest_of(alloc: Global, rest: Rest) -> Result<Vec<Expr>, NoMemory> {
-    let mut parts = Vec::new(alloc);
-    match rest {
-        Rest::None => {}
-        Rest::Less => parts.push(call(alloc, Func::Lt, column(1), column(3), TRUTH)?)?,
-        Rest::Quotient => {
-            let quotient = call(alloc, Func::Divide, column(1), column(3), NUMBER)?;
-            parts.push(call(alloc, Func::Gt, quotient, number(0), TRUTH)?)?;
-        }
-        Rest::BelowFive => {
-            let quotient = call(alloc, Func::Divide, column(1), column(3), NUMBER)?;
-            parts.push(call(alloc, Func::Lt, quotient, number(5), TRUTH)?)?;
-        }
-    }
-    Ok(parts)
-}
-
-fn column(index: u32) -> Expr {
-    Expr::Column { index, ty: NUMBER }
-}
-
-fn number(number: i64) -> Expr {
-    Expr::Const {
-        value: Value::Int(number),
-        ty: NUMBER,
-    }
-}
-
-fn constant(truth: bool) -> Expr {
+fn truth(truth: bool) -> Expr {
     Expr::Const {
         value: Value::Bool(truth),
         ty: TRUTH,
     }
-}
-
-fn call(alloc: Global, func: Func, first: Expr, second: Expr, ty: Ty) -> Result<Expr, NoMemory> {
-    let mut args = Items::new(alloc);
-    args.push(first)?;
-    args.push(second)?;
-    Ok(Expr::Call {
-        func,
-        mode: Overflow::Error,
-        args,
-        ty,
-    })
 }

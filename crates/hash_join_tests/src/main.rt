@@ -1,11 +1,13 @@
 // Worked joins, and random joins of every kind by `hash_join`, each of these against the row engine's join of the same rows, which
 // tries every pair. The left rows come in two pieces with marks of their own, and the right rows in two parts. Keys collide and are
-// null, and the rest of the condition may fault.
+// null, and the rest of the condition may fault; a rest of two conjuncts may fault where the first isn't true, which is no fault.
 #![tactic(auto)]
 
 mod batches;
+mod calls;
 mod conditions;
 mod random;
+mod rests;
 mod rows;
 mod trial;
 mod worked;

@@ -1,15 +1,15 @@
 // One random join after another.
-ghost use Rattle.std.specs.Prelude.{◌≡◌, ◌∷◌, [], IfOk};
+ghost use Rattle.std.specs.Prelude.{◌≡◌, ◌≤◌, length, IfOk};
 ghost use Rattle.batch.specs.BatchRows.{types_of};
-ghost use Rattle.join_columns.specs.Sides.{HasKinds};
-ghost use Rattle.hash_join.specs.Built.{IsJoinable};
+ghost use Rattle.hash_join_tests.specs.Typed.{IsOfNumbers, IsReady, numbers};
 
-use crate::batches::{NUMBER, random_batch};
-use crate::conditions::{Condition, RELATION, Rest, spec_of, whole};
+use crate::batches::{fitting, random_batch};
+use crate::conditions::{Condition, RELATION, spec_of, whole};
 use crate::random::Random;
+use crate::rests::Rest;
 use crate::rows::{are_same, push_rows};
 use batch::{Batch, Piece};
-use hash_join::{BuildPart, JoinTable};
+use hash_join::{BuildPart, JoinTable, Marks};
 use plan_leaves::Items;
 use plan_typed::JoinKind;
 use rel_specs::JoinSpec;
@@ -48,10 +48,12 @@ fn kind_of(random: &mut Random) -> JoinKind {
 
 fn condition_of(random: &mut Random) -> Condition {
     let keyed = random.below(4) != 0;
-    let rest = match random.below(3) {
+    let rest = match random.below(5) {
         0 => Rest::None,
         1 => Rest::Less,
-        _ => Rest::Quotient,
+        2 => Rest::Quotient,
+        3 => Rest::Guarded,
+        _ => Rest::Both,
     };
     Condition { keyed, rest }
 }
@@ -64,8 +66,8 @@ fn agrees(
     left: Batch,
     right: Batch,
 ) -> Result<bool, NoMemory>
-    requires left { types_of left ≡ NUMBER ∷ NUMBER ∷ [] }
-    requires right { types_of right ≡ NUMBER ∷ NUMBER ∷ [] }
+    requires left { types_of left ≡ numbers }
+    requires right { types_of right ≡ numbers }
 {
     let expected = by_rows(alloc, kind, condition, &left, &right)?;
     let spec = spec_of(alloc, kind, condition)?;
@@ -111,17 +113,20 @@ fn by_rows(
 
 // The table of the right rows in two parts.
 pub(crate) fn table_of(alloc: Global, spec: JoinSpec, right: &Batch) -> Result<JoinTable, NoMemory>
-    requires joinable { IsJoinable spec }
-    requires kinds { HasKinds spec.right.items right.now }
-    ensures { IfOk result (λ table. table.spec ≡ spec) }
+    requires join { IsOfNumbers spec }
+    requires types { types_of right.now ≡ numbers }
+    ensures { IfOk result (λ table. IsReady table) }
 {
     let half = right.rows / 2;
-    let first = right.slice(alloc, 0, half)?;
-    let second = right.slice(alloc, half, right.rows)?;
+    let first = fitting(alloc, right, 0, half)?;
+    let second = fitting(alloc, right, half, right.rows)?;
+    let one = BuildPart::of(alloc, &spec, first)?;
+    let two = BuildPart::of(alloc, &spec, second)?;
     let mut parts = Vec::new(alloc);
-    parts.push(BuildPart::of(alloc, &spec, first)?)?;
-    parts.push(BuildPart::of(alloc, &spec, second)?)?;
-    JoinTable::build(alloc, spec, parts)
+    parts.push(one)?;
+    parts.push(two)?;
+    let table = JoinTable::build(alloc, spec, parts)?;
+    Ok(table)
 }
 
 // The join of the left rows in two pieces, with marks of their own.
@@ -131,32 +136,38 @@ pub(crate) fn by_table(
     table: &JoinTable,
     left: &Batch,
 ) -> Result<RowStream, NoMemory>
-    requires { HasKinds table.now.spec.left.items left.now }
+    requires table { IsReady table.now }
+    requires types { types_of left.now ≡ numbers }
 {
     let half = left.rows / 2;
-    let first = left.slice(alloc, 0, half)?;
-    let second = left.slice(alloc, half, left.rows)?;
     let mut marks = table.marks()?;
     let mut others = table.marks()?;
-    let one = table.probe(
-        alloc,
-        Piece {
-            batch: first,
-            end: None,
-        },
-        &mut marks,
-    )?;
-    let two = table.probe(
-        alloc,
-        Piece {
-            batch: second,
-            end: None,
-        },
-        &mut others,
-    )?;
+    let one = probed(alloc, table, left, 0, half, &mut marks)?;
+    let two = probed(alloc, table, left, half, left.rows, &mut others)?;
     marks.merge(&others);
     let last = table.rest(alloc, &marks)?;
     glued(alloc, kind, one, two, &last)
+}
+
+// What the left rows from one to another give.
+fn probed(
+    alloc: Global,
+    table: &JoinTable,
+    left: &Batch,
+    from: u64,
+    to: u64,
+    marks: &mut Marks,
+) -> Result<Piece, NoMemory>
+    requires table { IsReady table.now }
+    requires types { types_of left.now ≡ numbers }
+    requires rising { from ≤ to }
+    requires within { to ≤ left.now.rows }
+    requires marks { length marks.old ≡ length table.now.rows }
+    ensures { length marks.new ≡ length marks.old }
+{
+    let batch = fitting(alloc, left, from, to)?;
+    let piece = Piece { batch, end: None };
+    table.probe(alloc, piece, marks)
 }
 
 // The pieces, and then what comes last, up to the first fault.

@@ -1,6 +1,7 @@
 // Worked joins: rows of both sides, and the rows and the end that a join of them has. A letter stands as its code.
 use crate::batches::{Number, batch_of_rows, value_of};
-use crate::conditions::{Condition, RELATION, Rest, spec_of};
+use crate::conditions::{Condition, RELATION, spec_of};
+use crate::rests::Rest;
 use crate::rows::are_same;
 use crate::trial::{by_table, table_of};
 use plan_leaves::Items;
@@ -38,7 +39,7 @@ const RIGHT: &[Two] = &[[Some(1), Some(120)], [Some(1), Some(121)], [N, Some(122
 
 const TENS: &[Two] = &[[Some(1), Some(10)], [Some(2), Some(10)]];
 
-const WORKED: [Worked; 10] = [
+const WORKED: [Worked; 14] = [
     Worked {
         name: "left",
         kind: JoinKind::Left,
@@ -158,6 +159,58 @@ const WORKED: [Worked; 10] = [
         alone: &[],
         rows: &[[Some(2), Some(10), Some(2), Some(3)]],
         end: Some(FaultKind::DivideByZero),
+    },
+    Worked {
+        name: "a quotient behind its guard",
+        kind: JoinKind::Inner,
+        rest: Rest::Guarded,
+        left: TENS,
+        right: &[[Some(2), Some(0)], [Some(1), Some(2)], [Some(2), Some(3)]],
+        alone: &[],
+        rows: &[
+            [Some(1), Some(10), Some(1), Some(2)],
+            [Some(2), Some(10), Some(2), Some(3)],
+        ],
+        end: None,
+    },
+    Worked {
+        name: "left rows alone behind a guard",
+        kind: JoinKind::Outer,
+        rest: Rest::Guarded,
+        left: TENS,
+        right: &[[Some(2), Some(0)], [Some(1), N], [Some(2), Some(30)]],
+        alone: &[],
+        rows: &[
+            [Some(1), Some(10), N, N],
+            [Some(2), Some(10), N, N],
+            [N, N, Some(2), Some(0)],
+            [N, N, Some(1), N],
+            [N, N, Some(2), Some(30)],
+        ],
+        end: None,
+    },
+    Worked {
+        name: "a fault of the second conjunct",
+        kind: JoinKind::Left,
+        rest: Rest::Both,
+        left: &[[Some(1), Some(0)], [Some(2), Some(10)]],
+        right: &[[Some(1), Some(0)], [Some(2), Some(3)], [Some(2), Some(0)]],
+        alone: &[],
+        rows: &[
+            [Some(1), Some(0), N, N],
+            [Some(2), Some(10), Some(2), Some(3)],
+        ],
+        end: Some(FaultKind::DivideByZero),
+    },
+    Worked {
+        name: "a semi join up to its first partner",
+        kind: JoinKind::LeftSemi,
+        rest: Rest::Both,
+        left: TENS,
+        right: &[[Some(2), Some(3)], [Some(2), Some(0)]],
+        alone: &[[Some(2), Some(10)]],
+        rows: &[],
+        end: None,
     },
 ];
 
