@@ -15,9 +15,10 @@ def main():
     spec.loader.exec_module(measure)
     measure.HERE = HERE
     measure.NAME = "joins_speed"
-    measure.USES = ("anyhow sub_types plan_leaves plan_typed func_table well_typed plan_denote eval_values eval_row byteorder "
-                    "col_fixed col_text batch world arrow_meta arrow_decode arrow_read table_rows rel_specs plan_pipes key_hashes "
-                    "row_keys hash_chains join_marks join_pairs join_keys join_rest join_columns hash_join")
+    measure.USES = ("anyhow sub_types plan_leaves plan_typed func_table well_typed plan_denote eval_typed denote_typed text_match "
+                    "byteorder col_fixed col_text kernels eval_values eval_row batch call_kernels batch_nodes batch_calls value_sets "
+                    "among_constants eval_batch world arrow_meta arrow_decode arrow_read table_rows rel_specs plan_pipes key_hashes "
+                    "row_keys hash_chains join_marks join_pairs join_keys join_rest join_columns pair_batches hash_join")
     measure.measure("joins")
 
 
