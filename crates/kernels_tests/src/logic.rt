@@ -1,7 +1,10 @@
 // Kernels on columns of truth values.
+ghost use Rattle.std.specs.Prelude.{◌≡◌, length};
+
 use col_fixed::{BoolBuilder, BoolCol};
 use kernels::{Rows, and3, not3, or3, select, xor3};
 use std::alloc::Global;
+use sub_types::NoMemory;
 
 // true, false and null in turn.
 fn value(i: usize, nulls: bool, step: usize) -> Option<bool> {
@@ -47,49 +50,70 @@ fn xor_of(a: Option<bool>, b: Option<bool>) -> Option<bool> {
     }
 }
 
-// Whether the four columns are what the loops say.
-fn are(a: &BoolCol, b: &BoolCol, seen: &[BoolCol; 4]) -> bool {
-    let [both, either, differ, other] = seen;
-    let len = a.len();
-    if b.len() != len
-        || both.len() != len
-        || either.len() != len
-        || differ.len() != len
-        || other.len() != len
-    {
+// What gives a column of one, or of two that are as long.
+#[derive(Clone, Copy)]
+enum Connective {
+    And,
+    Or,
+    Xor,
+    Not,
+}
+
+fn of(connective: Connective, a: Option<bool>, b: Option<bool>) -> Option<bool> {
+    match connective {
+        Connective::And => and_of(a, b),
+        Connective::Or => or_of(a, b),
+        Connective::Xor => xor_of(a, b),
+        Connective::Not => opposite(a),
+    }
+}
+
+fn connected(
+    alloc: Global,
+    connective: Connective,
+    a: &BoolCol,
+    b: &BoolCol,
+) -> Result<BoolCol, NoMemory>
+    requires { length a.now ≡ length b.now }
+{
+    match connective {
+        Connective::And => and3(alloc, a, b),
+        Connective::Or => or3(alloc, a, b),
+        Connective::Xor => xor3(alloc, a, b),
+        Connective::Not => not3(alloc, a),
+    }
+}
+
+// Whether the column is what the loop says.
+fn are(connective: Connective, a: &BoolCol, b: &BoolCol, seen: &BoolCol) -> bool {
+    if b.len() != a.len() || seen.len() != a.len() {
         return false;
     }
-    for i in 0..len {
-        let (x, y) = (a.value_at(i), b.value_at(i));
-        if both.value_at(i) != and_of(x, y) || either.value_at(i) != or_of(x, y) {
-            return false;
-        }
-        if differ.value_at(i) != xor_of(x, y) || other.value_at(i) != opposite(x) {
+    for i in 0..a.len() {
+        if seen.value_at(i) != of(connective, a.value_at(i), b.value_at(i)) {
             return false;
         }
     }
     true
 }
 
-fn connects(alloc: Global, n: usize, nulls: bool) -> bool {
-    let a = column(alloc, n, nulls, 1);
-    let b = column(alloc, n, nulls, 3);
+fn connects_by(alloc: Global, connective: Connective, a: &BoolCol, b: &BoolCol) -> bool {
     if a.len() != b.len() {
         return false;
     }
-    match (
-        and3(alloc, &a, &b),
-        or3(alloc, &a, &b),
-        xor3(alloc, &a, &b),
-        not3(alloc, &a),
-    ) {
-        (Ok(both), Ok(either), Ok(differ), Ok(other)) => are(
-            &a,
-            &b,
-            &[both, either, differ, other],
-        ),
-        _ => false,
+    match connected(alloc, connective, a, b) {
+        Ok(seen) => are(connective, a, b, &seen),
+        Err(_) => false,
     }
+}
+
+fn connects(alloc: Global, n: usize, nulls: bool) -> bool {
+    let a = column(alloc, n, nulls, 1);
+    let b = column(alloc, n, nulls, 3);
+    connects_by(alloc, Connective::And, &a, &b)
+        && connects_by(alloc, Connective::Or, &a, &b)
+        && connects_by(alloc, Connective::Xor, &a, &b)
+        && connects_by(alloc, Connective::Not, &a, &b)
 }
 
 // Whether these are the places of the true values.

@@ -80,13 +80,36 @@ fn are<T: Native>(column: &BoolCol, op: CompareOp, a: &View<'_, T>, b: &View<'_,
     true
 }
 
-// The same of a column with a constant.
-fn are_constant<T: Native>(column: &BoolCol, op: CompareOp, a: &View<'_, T>, constant: T) -> bool {
+// The same of a column with a constant or null.
+fn are_with<T: Native>(
+    column: &BoolCol,
+    op: CompareOp,
+    a: &View<'_, T>,
+    constant: Option<T>,
+) -> bool {
     if column.len() != a.len() {
         return false;
     }
     for i in 0..a.len() {
-        if column.value_at(i) != expected(op, a.value_at(i), Some(constant)) {
+        if column.value_at(i) != expected(op, a.value_at(i), constant) {
+            return false;
+        }
+    }
+    true
+}
+
+// The same of a constant or null with a column.
+fn are_from<T: Native>(
+    column: &BoolCol,
+    op: CompareOp,
+    constant: Option<T>,
+    a: &View<'_, T>,
+) -> bool {
+    if column.len() != a.len() {
+        return false;
+    }
+    for i in 0..a.len() {
+        if column.value_at(i) != expected(op, constant, a.value_at(i)) {
             return false;
         }
     }
@@ -112,7 +135,7 @@ fn compares_constant<T: Native>(
     constant: T,
 ) -> bool {
     match compare_constant(alloc, op, part_of(a, 0, a.len()), constant) {
-        Ok(column) => are_constant(&column, op, a, constant),
+        Ok(column) => are_with(&column, op, a, Some(constant)),
         Err(_) => false,
     }
 }
@@ -124,21 +147,53 @@ fn compares_either<T: Native>(
     a: &View<'_, T>,
     constant: Option<T>,
 ) -> bool {
-    match (
-        compare_with(alloc, op, part_of(a, 0, a.len()), constant),
-        compare_from(alloc, op, constant, part_of(a, 0, a.len())),
-    ) {
-        (Ok(right), Ok(left)) => {
-            let mut same = right.len() == a.len() && left.len() == a.len();
-            for i in 0..a.len().min(right.len()).min(left.len()) {
-                let x = a.value_at(i);
-                same &= right.value_at(i) == expected(op, x, constant)
-                    && left.value_at(i) == expected(op, constant, x);
-            }
-            same
-        }
-        _ => false,
+    compares_with(alloc, op, a, constant) && compares_from(alloc, op, constant, a)
+}
+
+fn compares_with<T: Native>(
+    alloc: Global,
+    op: CompareOp,
+    a: &View<'_, T>,
+    constant: Option<T>,
+) -> bool {
+    match compare_with(alloc, op, part_of(a, 0, a.len()), constant) {
+        Ok(column) => are_with(&column, op, a, constant),
+        Err(_) => false,
     }
+}
+
+fn compares_from<T: Native>(
+    alloc: Global,
+    op: CompareOp,
+    constant: Option<T>,
+    a: &View<'_, T>,
+) -> bool {
+    match compare_from(alloc, op, constant, part_of(a, 0, a.len())) {
+        Ok(column) => are_from(&column, op, constant, a),
+        Err(_) => false,
+    }
+}
+
+// Whether each of these columns, constants and nulls are compared right.
+fn compares_each<T: Native>(
+    alloc: Global,
+    op: CompareOp,
+    a: &View<'_, T>,
+    b: &View<'_, T>,
+) -> bool {
+    compares(alloc, op, a, b)
+        && compares_constant(alloc, op, a, T::wrapped(2))
+        && compares_either(alloc, op, a, Some(T::wrapped(2)))
+        && compares_either(alloc, op, a, None)
+}
+
+fn compares_all<T: Native>(alloc: Global, a: &View<'_, T>, b: &View<'_, T>) -> bool {
+    for op in COMPARISONS {
+        if !compares_each(alloc, op, a, b) {
+            return false;
+        }
+    }
+    true
 }
 
 // The first length at which a comparison of parts at these offsets is wrong.
@@ -148,14 +203,8 @@ fn wrong_length<T: Native>(alloc: Global, nulls: bool, from: usize, other: usize
     for len in 0..131 {
         let left = part_of(&a.view(), from, len);
         let right = part_of(&b.view(), other, len);
-        for op in COMPARISONS {
-            if !compares(alloc, op, &left, &right)
-                || !compares_constant(alloc, op, &left, T::wrapped(2))
-                || !compares_either(alloc, op, &left, Some(T::wrapped(2)))
-                || !compares_either(alloc, op, &left, None)
-            {
-                return Some(len);
-            }
+        if !compares_all(alloc, &left, &right) {
+            return Some(len);
         }
     }
     None
@@ -310,6 +359,15 @@ fn computes<T: Native>(
     }
 }
 
+// A constant or null, once for each row.
+fn constants_of<T: Native>(alloc: Global, rows: usize, constant: Option<T>) -> Fixed<T> {
+    let mut constants = FixedBuilder::new(alloc);
+    for _ in 0..rows {
+        let _ = constants.push(constant);
+    }
+    constants.finish()
+}
+
 // The same of a column with a constant, which is also laid out in a column for the loop.
 fn computes_constant<T: Native>(
     alloc: Global,
@@ -319,29 +377,18 @@ fn computes_constant<T: Native>(
     a: &View<'_, T>,
     constant: T,
 ) -> bool {
-    let mut constants = FixedBuilder::new(alloc);
-    for _ in 0..a.len() {
-        let _ = constants.push(Some(constant));
-    }
-    let constants = constants.finish();
+    let constants = constants_of(alloc, a.len(), Some(constant));
     let half = 1i128.wrapping_shl(bits.wrapping_sub(1));
     let least = T::wrapped(half.wrapping_neg());
     let greatest = T::wrapped(half.wrapping_sub(1));
-    match arith_constant(
-        alloc,
-        op,
-        mode,
-        least,
-        greatest,
-        part_of(a, 0, a.len()),
-        constant,
-    ) {
+    let part = part_of(a, 0, a.len());
+    match arith_constant(alloc, op, mode, least, greatest, part, constant) {
         Ok((column, stop)) => is_result(op, mode, bits, a, &constants.view(), &column, stop),
         Err(_) => false,
     }
 }
 
-// The same of a column and a constant or null, on either side.
+// The same of a column and a constant or null, which is also laid out in a column, on either side.
 fn computes_either<T: Native>(
     alloc: Global,
     op: ArithOp,
@@ -350,49 +397,109 @@ fn computes_either<T: Native>(
     a: &View<'_, T>,
     constant: Option<T>,
 ) -> bool {
-    let mut constants = FixedBuilder::new(alloc);
-    for _ in 0..a.len() {
-        let _ = constants.push(constant);
-    }
-    let constants = constants.finish();
+    let constants = constants_of(alloc, a.len(), constant);
+    computes_with(alloc, op, mode, bits, a, constant, &constants.view())
+        && computes_from(alloc, op, mode, bits, constant, &constants.view(), a)
+}
+
+fn computes_with<T: Native>(
+    alloc: Global,
+    op: ArithOp,
+    mode: Overflow,
+    bits: u32,
+    a: &View<'_, T>,
+    constant: Option<T>,
+    constants: &View<'_, T>,
+) -> bool {
     let half = 1i128.wrapping_shl(bits.wrapping_sub(1));
     let least = T::wrapped(half.wrapping_neg());
     let greatest = T::wrapped(half.wrapping_sub(1));
     let part = part_of(a, 0, a.len());
-    let right = arith_with(alloc, op, mode, least, greatest, part, constant);
-    let part = part_of(a, 0, a.len());
-    let left = arith_from(alloc, op, mode, least, greatest, constant, part);
-    match (right, left) {
-        (Ok((right, right_stop)), Ok((left, left_stop))) => {
-            is_result(op, mode, bits, a, &constants.view(), &right, right_stop)
-                && is_result(op, mode, bits, &constants.view(), a, &left, left_stop)
-        }
-        _ => false,
+    match arith_with(alloc, op, mode, least, greatest, part, constant) {
+        Ok((column, stop)) => is_result(op, mode, bits, a, constants, &column, stop),
+        Err(_) => false,
     }
+}
+
+fn computes_from<T: Native>(
+    alloc: Global,
+    op: ArithOp,
+    mode: Overflow,
+    bits: u32,
+    constant: Option<T>,
+    constants: &View<'_, T>,
+    a: &View<'_, T>,
+) -> bool {
+    let half = 1i128.wrapping_shl(bits.wrapping_sub(1));
+    let least = T::wrapped(half.wrapping_neg());
+    let greatest = T::wrapped(half.wrapping_sub(1));
+    let part = part_of(a, 0, a.len());
+    match arith_from(alloc, op, mode, least, greatest, constant, part) {
+        Ok((column, stop)) => is_result(op, mode, bits, constants, a, &column, stop),
+        Err(_) => false,
+    }
+}
+
+// Whether each of these columns, constants and nulls are computed right.
+fn computes_each<T: Native>(
+    alloc: Global,
+    op: ArithOp,
+    mode: Overflow,
+    bits: u32,
+    a: &View<'_, T>,
+    b: &View<'_, T>,
+) -> bool {
+    computes(alloc, op, mode, bits, a, b)
+        && computes_constant(alloc, op, mode, bits, a, T::wrapped(3))
+        && computes_either(alloc, op, mode, bits, a, Some(T::wrapped(3)))
+        && computes_either(alloc, op, mode, bits, a, None)
+}
+
+fn computes_in_mode<T: Native>(
+    alloc: Global,
+    mode: Overflow,
+    bits: u32,
+    a: &View<'_, T>,
+    b: &View<'_, T>,
+) -> bool {
+    for op in [
+        ArithOp::Add,
+        ArithOp::Subtract,
+        ArithOp::Multiply,
+        ArithOp::Divide,
+        ArithOp::Modulus,
+    ] {
+        if !computes_each(alloc, op, mode, bits, a, b) {
+            return false;
+        }
+    }
+    true
+}
+
+// The same in each mode, of parts of this length.
+fn computes_parts<T: Native>(
+    alloc: Global,
+    bits: u32,
+    a: &View<'_, T>,
+    b: &View<'_, T>,
+    len: usize,
+) -> bool {
+    let left = part_of(a, len % 10, len);
+    let right = part_of(b, len % 9, len);
+    for mode in [Overflow::Error, Overflow::Saturate, Overflow::Silent] {
+        if !computes_in_mode(alloc, mode, bits, &left, &right) {
+            return false;
+        }
+    }
+    true
 }
 
 fn computes_all<T: Native>(alloc: Global, bits: u32, nulls: bool) -> bool {
     let a = column::<T>(alloc, 150, nulls, 2);
     let b = column::<T>(alloc, 150, nulls, 4);
     for len in 0..131 {
-        let left = part_of(&a.view(), len % 10, len);
-        let right = part_of(&b.view(), len % 9, len);
-        for mode in [Overflow::Error, Overflow::Saturate, Overflow::Silent] {
-            for op in [
-                ArithOp::Add,
-                ArithOp::Subtract,
-                ArithOp::Multiply,
-                ArithOp::Divide,
-                ArithOp::Modulus,
-            ] {
-                if !computes(alloc, op, mode, bits, &left, &right)
-                    || !computes_constant(alloc, op, mode, bits, &left, T::wrapped(3))
-                    || !computes_either(alloc, op, mode, bits, &left, Some(T::wrapped(3)))
-                    || !computes_either(alloc, op, mode, bits, &left, None)
-                {
-                    return false;
-                }
-            }
+        if !computes_parts(alloc, bits, &a.view(), &b.view(), len) {
+            return false;
         }
     }
     true

@@ -49,11 +49,23 @@ fn random_numbers(alloc: Global, random: &mut Random, rows: u64) -> Result<Colum
     ensures { IfOk result (λ column. column.ty ≡ NUMBER) }
 {
     let mut builder = ColumnBuilder::new(alloc, NUMBER);
+    push_random_numbers(&mut builder, random, rows)?;
+    Ok(builder.finish())
+}
+
+fn push_random_numbers(
+    builder: &mut ColumnBuilder,
+    random: &mut Random,
+    rows: u64,
+) -> Result<(), NoMemory>
+    requires { builder.old.ty ≡ NUMBER }
+    ensures { builder.new.ty ≡ builder.old.ty }
+{
     for _ in 0..rows {
         let number = random.below(5) as i64;
-        push_number(&mut builder, if number == 4 { None } else { Some(number) })?;
+        push_number(builder, if number == 4 { None } else { Some(number) })?;
     }
-    Ok(builder.finish())
+    Ok(())
 }
 
 // A column of these numbers.
@@ -61,10 +73,18 @@ pub(crate) fn numbers(alloc: Global, values: &[Option<i64>]) -> Result<Column, N
     ensures { IfOk result (λ column. column.ty ≡ NUMBER) }
 {
     let mut builder = ColumnBuilder::new(alloc, NUMBER);
-    for value in values {
-        push_number(&mut builder, *value)?;
-    }
+    push_numbers(&mut builder, values)?;
     Ok(builder.finish())
+}
+
+fn push_numbers(builder: &mut ColumnBuilder, values: &[Option<i64>]) -> Result<(), NoMemory>
+    requires { builder.old.ty ≡ NUMBER }
+    ensures { builder.new.ty ≡ builder.old.ty }
+{
+    for value in values {
+        push_number(builder, *value)?;
+    }
+    Ok(())
 }
 
 fn push_number(builder: &mut ColumnBuilder, number: Option<i64>) -> Result<(), NoMemory>
@@ -85,9 +105,7 @@ pub(crate) fn batch_of(alloc: Global, first: Column, second: Column) -> Result<B
     if second.values.len() != rows {
         return Err(NoMemory);
     }
-    let mut columns = Vec::new(alloc);
-    columns.push(first)?;
-    columns.push(second)?;
+    let columns = vec![in alloc; first, second]?;
     Ok(Batch {
         number: 0,
         rows: rows as u64,

@@ -61,7 +61,13 @@ fn where_divided(alloc: Global) -> Result<Expr, NoMemory>
     ensures { IfOk result (IsOver TRUTH) }
 {
     let is_above = above(alloc, second(), number(0))?;
-    let divided = quotient(alloc, first(), second())?;
-    let is_high = above(alloc, divided, number(1))?;
+    let is_high = is_high_quotient(alloc)?;
     both(alloc, is_above, is_high)
+}
+
+fn is_high_quotient(alloc: Global) -> Result<Expr, NoMemory>
+    ensures { IfOk result (IsOver TRUTH) }
+{
+    let divided = quotient(alloc, first(), second())?;
+    above(alloc, divided, number(1))
 }

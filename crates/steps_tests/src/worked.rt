@@ -8,21 +8,29 @@ use crate::named::{condition_of, number_of};
 use crate::steps::{filtered_pieces, kept_pieces, projected_pieces, stream_of_all};
 use crate::text::text_of;
 use anyhow::{Context, Result, bail};
-use batch::Piece;
+use batch::{Batch, Piece};
 use plan_typed::Expr;
 use row_ops::fetch;
 use std::alloc::Global;
-use sub_types::{Fault, FaultKind};
+use sub_types::{Fault, FaultKind, NoMemory};
 
 /// Whether a step gives what its row says.
 pub(crate) fn holds(alloc: Global, line: &str) -> Result<bool> {
     let (step, rest) = line.split_once(": ").context("no step")?;
     let (input, expected) = rest.split_once(" = ").context("no answer")?;
-    let pieces = pieces_of(alloc, input)?;
-    let given = stepped(alloc, step, pieces)?;
-    let stream = stream_of_all(alloc, &given)?;
-    let text = text_of(alloc, &stream)?;
+    let text = text_after(alloc, step, input)?;
     Ok(text.as_str() == expected)
+}
+
+// What the step gives of the pieces.
+fn text_after(alloc: Global, step: &str, input: &str) -> Result<String> {
+    let given = stepped(alloc, step, pieces_of(alloc, input)?)?;
+    text_of_pieces(alloc, &given)
+}
+
+fn text_of_pieces(alloc: Global, pieces: &[Piece]) -> Result<String> {
+    let stream = stream_of_all(alloc, pieces)?;
+    text_of(alloc, &stream)
 }
 
 fn stepped(alloc: Global, step: &str, pieces: Vec<Piece>) -> Result<Vec<Piece>>
@@ -30,21 +38,33 @@ fn stepped(alloc: Global, step: &str, pieces: Vec<Piece>) -> Result<Vec<Piece>>
 {
     let (name, what) = step.split_once(' ').context("no such step")?;
     match name {
-        "filter" => {
-            let condition = condition_of(alloc, what)?;
-            Ok(filtered_pieces(alloc, &condition, pieces)?)
-        }
-        "project" => {
-            let exprs = exprs_of(alloc, what)?;
-            Ok(projected_pieces(alloc, &exprs, pieces)?)
-        }
-        "keep" => {
-            let columns = columns_of(alloc, what)?;
-            Ok(kept_pieces(alloc, &columns, pieces)?)
-        }
+        "filter" => filtered(alloc, what, pieces),
+        "project" => projected(alloc, what, pieces),
+        "keep" => kept(alloc, what, pieces),
         "fetch" => fetched(alloc, what, pieces),
         _ => bail!("no such step"),
     }
+}
+
+fn filtered(alloc: Global, what: &str, pieces: Vec<Piece>) -> Result<Vec<Piece>>
+    requires { All (λ piece. types_of piece.batch ≡ NUMBER ∷ NUMBER ∷ []) pieces.items }
+{
+    let condition = condition_of(alloc, what)?;
+    Ok(filtered_pieces(alloc, &condition, pieces)?)
+}
+
+fn projected(alloc: Global, what: &str, pieces: Vec<Piece>) -> Result<Vec<Piece>>
+    requires { All (λ piece. types_of piece.batch ≡ NUMBER ∷ NUMBER ∷ []) pieces.items }
+{
+    let exprs = exprs_of(alloc, what)?;
+    Ok(projected_pieces(alloc, &exprs, pieces)?)
+}
+
+fn kept(alloc: Global, what: &str, pieces: Vec<Piece>) -> Result<Vec<Piece>>
+    requires { All (λ piece. types_of piece.batch ≡ NUMBER ∷ NUMBER ∷ []) pieces.items }
+{
+    let columns = columns_of(alloc, what)?;
+    Ok(kept_pieces(alloc, &columns, pieces)?)
 }
 
 // The rows from a place on, so many or all.
@@ -111,11 +131,28 @@ fn piece_of(alloc: Global, text: &str) -> Result<Piece>
         Some((rows, fault)) => (rows, Some(fault_of(fault)?)),
         None => (text, None),
     };
-    let (first, second) = values_of(alloc, rows)?;
-    let first = numbers(alloc, &first)?;
-    let second = numbers(alloc, &second)?;
-    let batch = batch_of(alloc, first, second)?;
+    let batch = batch_in(alloc, rows)?;
     Ok(Piece { batch, end })
+}
+
+// Rows with `|` between them.
+fn batch_in(alloc: Global, rows: &str) -> Result<Batch>
+    ensures { IfOk result (λ batch. types_of batch ≡ NUMBER ∷ NUMBER ∷ []) }
+{
+    let (first, second) = values_of(alloc, rows)?;
+    Ok(batch_of_values(alloc, &first, &second)?)
+}
+
+fn batch_of_values(
+    alloc: Global,
+    first: &[Option<i64>],
+    second: &[Option<i64>],
+) -> Result<Batch, NoMemory>
+    ensures { IfOk result (λ batch. types_of batch ≡ NUMBER ∷ NUMBER ∷ []) }
+{
+    let first = numbers(alloc, first)?;
+    let second = numbers(alloc, second)?;
+    batch_of(alloc, first, second)
 }
 
 fn fault_of(text: &str) -> Result<Fault> {
@@ -133,15 +170,23 @@ fn fault_of(text: &str) -> Result<Fault> {
 fn values_of(alloc: Global, rows: &str) -> Result<(Vec<Option<i64>>, Vec<Option<i64>>)> {
     let mut first = Vec::new(alloc);
     let mut second = Vec::new(alloc);
-    if rows.is_empty() {
-        return Ok((first, second));
+    if !rows.is_empty() {
+        push_values(rows, &mut first, &mut second)?;
     }
+    Ok((first, second))
+}
+
+fn push_values(
+    rows: &str,
+    first: &mut Vec<Option<i64>>,
+    second: &mut Vec<Option<i64>>,
+) -> Result<()> {
     for row in rows.split('|') {
         let (one, other) = row.split_once(',').context("no row")?;
         first.push(value_of(one)?)?;
         second.push(value_of(other)?)?;
     }
-    Ok((first, second))
+    Ok(())
 }
 
 fn value_of(text: &str) -> Result<Option<i64>> {

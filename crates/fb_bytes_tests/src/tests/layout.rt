@@ -74,19 +74,18 @@ fn is_around(bytes: &[u8], text: &[u8], size: usize) -> bool {
 #[test]
 fn numbers_by_width_and_texts_of_every_length_modulo_8(rt: HostRuntime) {
     assert!(rt; has_widths(rt.alloc()));
-    let sizes = [8, 8, 8, 8, 16, 16, 16, 16, 16];
-    let texts: [&[u8]; 9] = [
-        b"",
-        b"a",
-        b"ab",
-        b"abc",
-        b"abcd",
-        b"abcde",
-        b"abcdef",
-        b"abcdefg",
-        b"abcdefgh",
+    let texts: [(&[u8], usize); 9] = [
+        (b"", 8),
+        (b"a", 8),
+        (b"ab", 8),
+        (b"abc", 8),
+        (b"abcd", 16),
+        (b"abcde", 16),
+        (b"abcdef", 16),
+        (b"abcdefg", 16),
+        (b"abcdefgh", 16),
     ];
-    for (text, size) in texts.iter().zip(sizes) {
+    for (text, size) in texts {
         assert!(rt; is_laid(rt.alloc(), text, size));
     }
 }
