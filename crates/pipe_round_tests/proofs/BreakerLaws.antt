@@ -1,5 +1,5 @@
 -- Breakers over two columns of numbers.
-use Rattle.std.proofs.Common.{◌≡◌, ◌<◌, ℕ, List, [], ◌∷◌, length, get_or, map, refl, sym, ap, subst, arith}
+use Rattle.std.proofs.Common.{◌≡◌, ◌<◌, List, [], ◌∷◌, length, get_or, refl, sym, ap, subst, arith}
 use Rattle.std.specs.Prelude.{codes}
 use Rattle.std.specs.List.{AllByRecursion, Contains}
 use Rattle.sub_types.specs.declared.kind.Ty.{Ty}
@@ -13,7 +13,7 @@ use Rattle.func_table.specs.declared.row.Class.TheVariants.{Aggregate}
 use Rattle.func_table.specs.Entry.{Entry}
 use Rattle.func_table.specs.Table.{table, test}
 use Rattle.well_typed.specs.ExprTyped.{IsCall, IsTypedOver}
-use Rattle.well_typed.specs.WellTyped.{AreBelow, IsMeasureOver}
+use Rattle.well_typed.specs.WellTyped.{IsMeasureOver}
 use Rattle.well_typed.proofs.Made.{column_typed}
 use Rattle.batch_nodes.proofs.TypedLaws.{type_in}
 use Rattle.rel_specs.specs.declared.key_order.KeyOrder.{KeyOrder}
@@ -47,7 +47,7 @@ none = test (codes "lt") 2 funcs.Lt
 abbrev sum_entry : Entry
 sum_entry = get_or table 47 none
 
-long : length table ≡ 86
+pub long : length table ≡ 86
 unfolding table
 long = refl
 

@@ -1,4 +1,5 @@
 mod BreakerLaws
+mod RestLaws
 mod SpecLaws
 mod StepLaws
 mod TableLaws

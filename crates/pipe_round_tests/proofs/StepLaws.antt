@@ -1,13 +1,14 @@
 -- Steps over two columns of numbers, one after the other.
 use Rattle.std.proofs.Common.{◌≡◌, ◌∙◌, ℕ, zero, suc, ◌<◌, List, [], ◌∷◌, ◌++◌, Option, Some, None, All, length, slice_index_or, refl, sym, ap, subst, arith}
-use Rattle.std.proofs.lemmas.List.Elements.{All-head, All-tail}
+use Rattle.std.specs.List.{AllByRecursion}
+use Rattle.std.proofs.lemmas.List.Elements.{All-head, All-tail, recursion_from_All}
 use Rattle.sub_types.specs.declared.kind.Ty.{Ty}
 use Rattle.batch.specs.declared.batch.Batch.{Batch}
 use Rattle.plan_typed.specs.declared.expr.Expr.{Expr}
 use Rattle.plan_typed.specs.declared.rel.JoinKind.{JoinKind}
 use Rattle.plan_typed.specs.declared.rel.JoinKind.TheVariants as joins
 use Rattle.well_typed.specs.Columns.{columns_at, join_columns}
-use Rattle.well_typed.specs.WellTyped.{AreBelow}
+use Rattle.well_typed.specs.WellTyped.{AreBelow, IsConditionOver}
 use Rattle.rel_specs.specs.declared.join.JoinSpec.{JoinSpec}
 use Rattle.join_columns.specs.Sides.{kinds_of}
 use Rattle.plan_pipes.specs.declared.pipe.Step.{Step}
@@ -18,7 +19,7 @@ use Rattle.pipe_types.specs.Over.{AreStepsOver, IsStepOver}
 use Rattle.pipe_steps.specs.declared.built.BuiltTable.{BuiltTable}
 use Rattle.pipe_steps.specs.Ready.{IsReady}
 use Rattle.pipe_steps.specs.Tables.{joins_of}
-use Rattle.pipe_round_tests.specs.Steps.{AreSteps, IsJoinOf, IsReadAll, StartWithRead, number}
+use Rattle.pipe_round_tests.specs.Steps.{AreSteps, IsJoinOf, IsReadAll, StartWithRead, number, sides}
 
 abbrev two : List Ty
 two = number ∷ number ∷ []
@@ -91,22 +92,23 @@ left_kept joins.Right = ((omega arith, (omega arith, tt)), refl)
 left_kept joins.LeftSemi = ((omega arith, (omega arith, tt)), refl)
 left_kept joins.LeftAnti = ((omega arith, (omega arith, tt)), refl)
 
-joined_at : (tables : List BuiltTable) (built : ℕ) → built < length tables → All IsJoinOf tables → (join : JoinSpec) × (slice_index_or (joins_of tables) built None ≡ Some join) × (join.left.items ≡ two) × (join.right.items ≡ two)
+joined_at : (tables : List BuiltTable) (built : ℕ) → built < length tables → All IsJoinOf tables → (join : JoinSpec) × (slice_index_or (joins_of tables) built None ≡ Some join) × (join.left.items ≡ two) × (join.right.items ≡ two) × All (IsConditionOver sides) join.rest.items
 joined_at [] built below all = absurd (omega (arith, below))
-joined_at (table ∷ tables) zero below all = let own = All-head IsJoinOf table tables all in (table.table.spec, refl, own.left, own.right)
+joined_at (table ∷ tables) zero below all = let own = All-head IsJoinOf table tables all in (table.table.spec, refl, own.left, own.right, own.rest)
 joined_at (table ∷ tables) (suc built) below all = joined_at tables built (omega (arith, below)) (All-tail IsJoinOf table tables all)
 
 abbrev JoinIn : Option JoinSpec → Type 0
 JoinIn found = IsStepOver (found ∷ []) two (steps.Probe 0) × AreBelow (length (stepped exact_steps (found ∷ []) (steps.Probe 0) two)) (0 ∷ 1 ∷ []) × (columns_at (stepped exact_steps (found ∷ []) (steps.Probe 0) two) (0 ∷ 1 ∷ []) ≡ two)
 
-join_in : (join : JoinSpec) → join.left.items ≡ two → join.right.items ≡ two → JoinIn (Some join)
-join_in join left right =
+join_in : (join : JoinSpec) → join.left.items ≡ two → join.right.items ≡ two → All (IsConditionOver sides) join.rest.items → JoinIn (Some join)
+join_in join left right rest =
     let kept = subst (λ types. AreBelow (length (join_columns join.kind two types)) (0 ∷ 1 ∷ []) × (columns_at (join_columns join.kind two types) (0 ∷ 1 ∷ []) ≡ two)) (sym right) (left_kept join.kind) in
-    (ap kinds_of (sym left), kept.0, kept.1)
+    let typed : AllByRecursion (IsConditionOver (two ++ two)) join.rest.items = recursion_from_All (IsConditionOver sides) join.rest.items rest in
+    ((ap kinds_of (sym left), subst (λ types. AllByRecursion (IsConditionOver (two ++ types)) join.rest.items) (sym right) typed), kept.0, kept.1)
 
 pub joined_more : (tables : List BuiltTable) (all : List Step) (built : ℕ) → built < length tables → All IsJoinOf tables → AreSteps (joins_of tables) all
     → AreSteps (joins_of tables) (all ++ steps.Probe built ∷ steps.Keep (0 ∷ 1 ∷ []) ∷ [])
 joined_more tables all built below joins done =
     let found = joined_at tables built below joins in
-    let parts : JoinIn (slice_index_or (joins_of tables) built None) = subst JoinIn (sym found.1) (join_in found.0 found.2 found.3) in
+    let parts : JoinIn (slice_index_or (joins_of tables) built None) = subst JoinIn (sym found.1) (join_in found.0 found.2 found.3 found.4) in
     steps_more (joins_of tables) all (steps.Probe built ∷ steps.Keep (0 ∷ 1 ∷ []) ∷ []) done (parts.0, (parts.1, tt)) parts.2

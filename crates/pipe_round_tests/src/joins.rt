@@ -1,21 +1,18 @@
 // Joins of two columns of numbers on each side.
 ghost use Rattle.std.specs.Prelude.{◌≡◌, ◌∷◌, [], IfOk};
-ghost use Rattle.std.specs.List.{AllByRecursion};
+ghost use Rattle.std.specs.List.{All, AllByRecursion};
+ghost use Rattle.well_typed.specs.WellTyped.{IsConditionOver};
 ghost use Rattle.plan_pipes.specs.TypeMeaning.{IsKeyOver};
 ghost use Rattle.hash_join.specs.Built.{IsJoinable};
+ghost use Rattle.pipe_round_tests.specs.Steps.{sides};
 
 use crate::batches::NUMBER;
 use crate::random::Random;
-use plan_leaves::Items;
-use plan_typed::{Expr, Func, JoinKind, Overflow};
+use crate::rests::{Rest, rest_of};
+use plan_typed::JoinKind;
 use rel_specs::JoinSpec;
 use std::alloc::Global;
-use sub_types::{Kind, NoMemory, Ty, Value};
-
-const TRUTH: Ty = Ty {
-    kind: Kind::Bool,
-    nullable: true,
-};
+use sub_types::{NoMemory, Ty};
 
 /// The number of each join's relation.
 const RELATION: u32 = 7;
@@ -27,21 +24,12 @@ struct Condition {
     rest: Rest,
 }
 
-/// The rest of a condition over the second columns of both sides.
-#[derive(Clone, Copy)]
-enum Rest {
-    None,
-    /// The left one is less than the right one.
-    Less,
-    /// The left one divided by the right one is above 0, which faults at 0.
-    Quotient,
-}
-
 /// A join of a kind and a condition that look random.
 pub(crate) fn random_spec(alloc: Global, random: &mut Random) -> Result<JoinSpec, NoMemory>
     ensures joinable { IfOk result (λ spec. IsJoinable spec) }
     ensures left { IfOk result (λ spec. spec.left.items ≡ NUMBER ∷ NUMBER ∷ []) }
     ensures right { IfOk result (λ spec. spec.right.items ≡ NUMBER ∷ NUMBER ∷ []) }
+    ensures rest { IfOk result (λ spec. All (IsConditionOver sides) spec.rest.items) }
 {
     let kind = kind_of(random);
     let condition = condition_of(random);
@@ -75,6 +63,7 @@ fn spec_of(alloc: Global, kind: JoinKind, condition: Condition) -> Result<JoinSp
     ensures joinable { IfOk result (λ spec. IsJoinable spec) }
     ensures left { IfOk result (λ spec. spec.left.items ≡ NUMBER ∷ NUMBER ∷ []) }
     ensures right { IfOk result (λ spec. spec.right.items ≡ NUMBER ∷ NUMBER ∷ []) }
+    ensures rest { IfOk result (λ spec. All (IsConditionOver sides) spec.rest.items) }
 {
     let keys = keys_of(alloc, condition.keyed)?;
     let rest = rest_of(alloc, condition.rest)?;
@@ -117,40 +106,4 @@ fn no_key(alloc: Global) -> Result<Vec<(u32, u32)>, NoMemory>
     ensures { IfOk result (λ keys. AllByRecursion (IsKeyOver (NUMBER ∷ NUMBER ∷ []) (NUMBER ∷ NUMBER ∷ [])) keys.items) }
 {
     Ok(Vec::new(alloc))
-}
-
-fn rest_of(alloc: Global, rest: Rest) -> Result<Vec<Expr>, NoMemory> {
-    let mut parts = Vec::new(alloc);
-    match rest {
-        Rest::None => {}
-        Rest::Less => parts.push(call(alloc, Func::Lt, column(1), column(3), TRUTH)?)?,
-        Rest::Quotient => {
-            let quotient = call(alloc, Func::Divide, column(1), column(3), NUMBER)?;
-            parts.push(call(alloc, Func::Gt, quotient, number(0), TRUTH)?)?;
-        }
-    }
-    Ok(parts)
-}
-
-fn column(index: u32) -> Expr {
-    Expr::Column { index, ty: NUMBER }
-}
-
-fn number(number: i64) -> Expr {
-    Expr::Const {
-        value: Value::Int(number),
-        ty: NUMBER,
-    }
-}
-
-fn call(alloc: Global, func: Func, first: Expr, second: Expr, ty: Ty) -> Result<Expr, NoMemory> {
-    let mut args = Items::new(alloc);
-    args.push(first)?;
-    args.push(second)?;
-    Ok(Expr::Call {
-        func,
-        mode: Overflow::Error,
-        args,
-        ty,
-    })
 }

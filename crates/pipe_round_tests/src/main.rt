@@ -7,6 +7,7 @@ mod batches;
 mod breakers;
 mod joins;
 mod random;
+mod rests;
 mod rows;
 mod steps;
 mod tables;

@@ -2,9 +2,10 @@
 ghost use Rattle.std.specs.Prelude.{◌≡◌, ◌∷◌, [], IfOk};
 ghost use Rattle.std.specs.List.{All};
 ghost use Rattle.batch.specs.BatchRows.{types_of};
+ghost use Rattle.well_typed.specs.WellTyped.{IsConditionOver};
 ghost use Rattle.hash_join.specs.Built.{IsJoinable};
 ghost use Rattle.pipe_steps.specs.Ready.{IsFit};
-ghost use Rattle.pipe_round_tests.specs.Steps.{IsJoinOf};
+ghost use Rattle.pipe_round_tests.specs.Steps.{IsJoinOf, sides};
 
 use crate::batches::{NUMBER, random_piece};
 use crate::joins::random_spec;
@@ -62,6 +63,7 @@ fn table_over(alloc: Global, spec: JoinSpec, rights: Vec<Piece>) -> Result<Built
     requires joinable { IsJoinable spec }
     requires left { spec.left.items ≡ NUMBER ∷ NUMBER ∷ [] }
     requires right { spec.right.items ≡ NUMBER ∷ NUMBER ∷ [] }
+    requires rest { All (IsConditionOver sides) spec.rest.items }
     requires typed { All (λ one. types_of one.batch ≡ NUMBER ∷ NUMBER ∷ []) rights.items }
     requires fit { All (λ one. IsFit one.batch) rights.items }
     ensures { IfOk result IsJoinOf }
@@ -81,6 +83,7 @@ fn table_of(alloc: Global, spec: JoinSpec, batch: Batch) -> Result<BuiltTable, N
     requires joinable { IsJoinable spec }
     requires left { spec.left.items ≡ NUMBER ∷ NUMBER ∷ [] }
     requires right { spec.right.items ≡ NUMBER ∷ NUMBER ∷ [] }
+    requires rest { All (IsConditionOver sides) spec.rest.items }
     requires typed { types_of batch ≡ NUMBER ∷ NUMBER ∷ [] }
     requires fit { IsFit batch }
     ensures { IfOk result IsJoinOf }
@@ -99,6 +102,7 @@ fn broken_table(alloc: Global, spec: JoinSpec, fault: Fault) -> Result<BuiltTabl
     requires joinable { IsJoinable spec }
     requires left { spec.left.items ≡ NUMBER ∷ NUMBER ∷ [] }
     requires right { spec.right.items ≡ NUMBER ∷ NUMBER ∷ [] }
+    requires rest { All (IsConditionOver sides) spec.rest.items }
     ensures { IfOk result IsJoinOf }
 {
     let parts = Vec::new(alloc);
