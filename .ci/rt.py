@@ -1,16 +1,14 @@
 #!/usr/bin/env python3
-"""Runs the kit's `rt`, with the words that are given, with two of its walks made in one pass: `python3 .ci/rt.py ci`.
+"""Runs the kit's `rt`, with the words that are given, with one of its walks made in one pass: `python3 .ci/rt.py ci`.
 
-`rt` asks for the libraries below a crate, and for a sum of all files that it is made from, along every path of crates.txt. This
-repository has millions of paths, and the second walk reads a crate's files at each step and is made twice for each library, so
-that `rt ci` would spend hours before it has proved everything. Here each library is visited once in a walk. All else is the
-kit's own: what is proved, tried and run, and what is refused.
+`rt` asks for the libraries below a crate along every path of crates.txt, and asks so for each import of a contract. This repository
+has a million paths from each of its upper crates, so that a gate would spend much of its time before it has proved anything. Here
+each library is visited once in a walk. All else is the kit's own: what is proved, tried and run, and what is refused.
 
-Both walks give what the kit's own give. That is tried for each crate before anything else: the kit's own walk over the crate,
-given these for the libraries that it lists, has to give the same, and so by induction for all. Where a kit has walks of another
-form, they stay as they are.
+The walk gives what the kit's own gives. That is tried for each crate before anything else: the kit's own walk over the crate, given
+this for the libraries that it lists, has to give the same, and so by induction for all. Where a kit has a walk of another form, it
+stays as it is.
 """
-import hashlib
 import importlib.machinery
 import importlib.util
 import inspect
@@ -29,18 +27,6 @@ BELOW = '''\
         for dep in self.deps:
             found += [it for it in [*dep.below(), dep] if it not in found]
         return found
-'''
-STAMP = '''\
-    def stamp(self):
-        """Returns a sum of all that the crate's rlib or program is made from."""
-        sum = hashlib.sha256(repr((self.said, self.has_c)).encode())
-        with open(f"{KIT}/WHAT", "rb") as it:
-            sum.update(it.read())
-        for file in files_of(self.folder):
-            with open(file, "rb") as it:
-                sum.update(repr((file.replace(self.folder, ""), it.read())).encode())
-        sum.update(repr([dep.stamp() for dep in self.deps]).encode())
-        return sum.hexdigest()
 '''
 
 
@@ -71,51 +57,21 @@ def below(crate):
     return found
 
 
-def stamps(lib, lasts):
-    """A crate's sum over its files and those below. The sums of a walk are forgotten when it ends, or so many seconds after it began."""
-    kept, begun = {}, [0.0]
-
-    def stamp(crate):
-        if time.monotonic() - begun[0] > lasts:
-            kept.clear()
-            begun[0] = time.monotonic()
-        known = kept if lasts else {}
-
-        def of(it):
-            if id(it) not in known:
-                total = hashlib.sha256(repr((it.said, it.has_c)).encode())
-                with open(f"{lib.KIT}/WHAT", "rb") as file:
-                    total.update(file.read())
-                for path in lib.files_of(it.folder):
-                    with open(path, "rb") as file:
-                        total.update(repr((path.replace(it.folder, ""), file.read())).encode())
-                total.update(repr([of(dep) for dep in it.deps]).encode())
-                known[id(it)] = total.hexdigest()
-            return known[id(it)]
-
-        return of(crate)
-
-    return stamp
-
-
-def tried(lib, kit_below, kit_stamp):
-    """Compares both walks with the kit's own, crate by crate, over these for the libraries that the crate lists."""
+def tried(lib, kit_below):
+    """Compares the walk with the kit's own, crate by crate, over this for the libraries that the crate lists."""
     top = os.path.dirname(os.path.dirname(os.path.abspath(__file__)))
     for crate in lib.crates_below(top):
-        if [it.name for it in kit_below(crate)] != [it.name for it in below(crate)] or kit_stamp(crate) != crate.stamp():
-            sys.exit(f"{crate.name}: these walks give something else than the kit's own")
+        if [it.name for it in kit_below(crate)] != [it.name for it in below(crate)]:
+            sys.exit(f"{crate.name}: this walk gives something else than the kit's own")
 
 
 def main(words):
     rt = loaded()
     lib = rt.rtlib
-    own = lib.Crate.below, lib.Crate.stamp
-    if [inspect.getsource(it) for it in own] == [BELOW, STAMP]:
+    own = lib.Crate.below
+    if inspect.getsource(own) == BELOW:
         lib.Crate.below = below
-        lib.Crate.stamp = stamps(lib, 600)
-        tried(lib, *own)
-        # In a gate a library's sum is made anew before it is proved and behind it.
-        lib.Crate.stamp = stamps(lib, 0 if words[:1] == ["ci"] else 2)
+        tried(lib, own)
     begun = time.monotonic()
     status = rt.main(words)
     if words[:1] == ["ci"]:
